@@ -1,0 +1,6 @@
+pub mod Accesses
+pub mod Refusals
+pub mod Entries
+pub mod Verdicts
+pub mod Questions
+pub mod Commits

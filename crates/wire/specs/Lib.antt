@@ -1,0 +1,2 @@
+pub mod AbortCodes
+pub mod Multiplexors
