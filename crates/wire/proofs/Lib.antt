@@ -1,3 +1,4 @@
+pub mod Fitting
 pub mod Identifiers
 pub mod Padding
 pub mod Spelling

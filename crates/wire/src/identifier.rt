@@ -1,7 +1,8 @@
 //! Who a frame comes from and what it is for (CiA 301, 7.3.5: the predefined connection set).
 ghost use mathlib.Core.Path.{_≡_};
-ghost use Prim.Native.Nat.{_+_, _≤_, _<_};
-ghost use Rattle.std.specs.Options.{Cases};
+ghost use Prim.Native.Nat.{_+_, _<_};
+ghost use Rattle.std.specs.Options.{mapped};
+ghost use Rattle.wire.specs.Ranges.{eleven-bits};
 use crate::node_number::NodeNumber;
 
 /// A CAN identifier of 11 bits.
@@ -14,7 +15,7 @@ pub struct Identifier {
 impl Identifier {
     /// The identifier with a number below 2,048; none for a larger one.
     pub fn new(number: u16) -> Option<Identifier>
-        ensures { λ r. ⌜ Cases r (2048 ≤ number) (λ i. i .number ≡ number) ⌝ }
+        ensures { λ r. ⌜ mapped (λ i. i .number) r ≡ eleven-bits number ⌝ }
     {
         if number < 2048 {
             Some(Identifier { number })

@@ -1,19 +1,18 @@
 //! Expedited data from a value, and back.
 ghost use mathlib.Core.Path.{_≡_};
-ghost use mathlib.Core.Bool.{false};
 ghost use mathlib.Core.List.{[], _∷_};
 ghost use Prim.Native.Nat.{_-_};
 ghost use lib.ListN.{length};
-ghost use Rattle.std.specs.Options.{Cases};
+ghost use Rattle.std.specs.Options.{mapped};
 ghost use Rattle.wire.specs.Fields.{padded};
-ghost use Rattle.wire.specs.Ranges.{fits-expedited};
+ghost use Rattle.wire.specs.Ranges.{expedited-of};
 ghost use Rattle.wire.specs.Transfers.{value-in};
 use super::ExpeditedData;
 
 impl ExpeditedData {
     /// The value as expedited data; none unless it has one to four bytes.
     pub fn new(value: &[u8]) -> Option<ExpeditedData>
-        ensures { λ r. ⌜ Cases r (fits-expedited (now (value .entry)) ≡ false) (λ d. value-in d ≡ now (value .entry)) ⌝ }
+        ensures { λ r. ⌜ mapped value-in r ≡ expedited-of (now (value .entry)) ⌝ }
     {
         match value {
             [a] => Some(ExpeditedData::one(*a)),
