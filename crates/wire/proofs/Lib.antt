@@ -1,3 +1,4 @@
+pub mod Digits
 pub mod Fitting
 pub mod Identifiers
 pub mod Padding

@@ -6,3 +6,4 @@ pub mod Transfers
 pub mod Requests
 pub mod Answers
 pub mod Frames
+pub mod Texts
