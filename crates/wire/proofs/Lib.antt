@@ -3,3 +3,4 @@ pub mod Fitting
 pub mod Identifiers
 pub mod Padding
 pub mod Spelling
+pub mod RoundTrips

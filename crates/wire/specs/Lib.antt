@@ -7,3 +7,4 @@ pub mod Requests
 pub mod Answers
 pub mod Frames
 pub mod Texts
+pub mod RoundTrips
