@@ -4,20 +4,16 @@ use mathlib.Core.List.{List, [], _∷_, _++_}
 use Prim.Native.Nat.{ℕ, _+_, _*_, _/_, _%_, _^_, _<_, _≤_}
 use native.Mathlib.Nat.{div-div-eq-div-mul}
 use native.Mathlib.Omega.{arith}
-use mathlib.Core.Logic.{inl, inr}
-use borrow.Author.Tests.{eqb-true}
-use lib.Dec.{eqb}
 use lib.ListN.{length}
-use Rattle.std.proofs.shelf.Tests.{cases-bool}
 use Rattle.std.specs.declared.option.Option.the-variants.{None, Some}
 use Rattle.wire.specs.declared.multiplexor.Multiplexor.{Multiplexor}
 use Rattle.wire.specs.Transfers.{Transfer, Expedited, Segmented, transfer-bits, transfer-bytes, transfer-in}
 use Rattle.wire.specs.declared.abort_code.AbortCode.{AbortCode}
-use Rattle.wire.specs.AbortCodes.{number, rows, code-among, code}
+use Rattle.wire.specs.AbortCodes.{number, code}
 use Rattle.wire.specs.Fields.{multiplexor-bytes, multiplexor-in, number-bytes, number-in}
 use Rattle.wire.specs.Requests as request
 use Rattle.wire.specs.Answers as answer
-use Rattle.wire.specs.RoundTrips.{Indexed, Carried, Proper, Requests-read-back, Answers-read-back, Codes-read-back}
+use Rattle.wire.specs.RoundTrips.{Indexed, Carried, Proper, Requests-read-back, Answers-read-back}
 
 two-bytes : (n : ℕ) → n < 2 ^ 16 → n % 256 + n / 256 % 256 * 256 ≡ n
 two-bytes n h = omega arith
@@ -94,14 +90,3 @@ answers-read-back (answer.Abort m c) (own, proper) =
     let rest = number-bytes (number c) in
     ap (λ x. Some (answer.Abort x (code (number-in (0x80 ∷ (multiplexor-bytes m ++ rest)))))) (multiplexor-back m own 0x80 rest)
     ∙ ap (λ x. Some (answer.Abort m x)) (abort-back m own c proper)
-
-code-among-back : (cs : List AbortCode) (n : ℕ) → number (code-among cs n) ≡ n
-code-among-back [] n = refl
-code-among-back (c ∷ cs) n =
-    elim (cases-bool (eqb n (number c))) [
-      inl same ↦ rw same (sym (eqb-true n (number c) same))
-    | inr other ↦ rw other (code-among-back cs n)
-    ]
-
-pub codes-read-back : Codes-read-back
-codes-read-back n = code-among-back rows n
