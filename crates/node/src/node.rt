@@ -42,6 +42,13 @@ impl Node {
         Node { number, commits: 0 }
     }
 
+    /// The node's number.
+    pub fn number(&self) -> NodeNumber
+        ensures { λ r. ⌜ r ≡ now (self .entry) .number ⌝ }
+    {
+        self.number
+    }
+
     /// How many values the node has set, modulo 65,536.
     pub fn commits(&self) -> u16
         ensures { λ r. ⌜ r ≡ now (self .entry) .commits ⌝ }
