@@ -59,14 +59,14 @@ impl ExpeditedData {
     }
 
     /// How many of the four bytes the value does not use.
-    pub fn unused(self) -> u8
+    pub(crate) fn unused(self) -> u8
         ensures { λ r. ⌜ r ≡ 4 - length (value-in self) ⌝ }
     {
         4 - self.len as u8
     }
 
     /// The four bytes as they stand in a frame: the value, then zeros.
-    pub fn four_bytes(self) -> [u8; 4]
+    pub(crate) fn four_bytes(self) -> [u8; 4]
         ensures { λ r. ⌜ r ≡ padded 4 (value-in self) ⌝ }
     {
         self.bytes

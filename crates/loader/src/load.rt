@@ -1,0 +1,59 @@
+//! Orders carried out at the sample node, one after the other.
+use crate::entries::print_entries;
+use crate::hex_bytes::HexBytes;
+use crate::hex_bytes::HexBytesDisplay;
+use dictionary::Table;
+use dictionary::sample;
+use exchange::Exchange;
+use exchange::Outcome;
+use exchange::expedited_write;
+use node::Node;
+use orders::Order;
+use std::error::AnyError;
+use wire::AbortCodeDisplay;
+use wire::ExpeditedData;
+use wire::FrameDisplay;
+use wire::MultiplexorDisplay;
+use wire::NodeNumber;
+
+/// Loads all orders into a new sample node, and prints each exchange, the entries and the count.
+pub fn load_all(rt: &LibcRuntime, orders: &[Order]) -> Result<(), AnyError> {
+    let mut table = sample();
+    let mut node = Node::new(NodeNumber::nearest(5));
+    for (i, order) in orders.iter().enumerate() {
+        let place = i.saturating_add(1);
+        let multiplexor = order.multiplexor;
+        let value = HexBytes(&order.value);
+        println!(rt, "{place}. {multiplexor} set to {value}")?;
+        let Some(data) = ExpeditedData::new(&order.value) else {
+            return Err("an order has no bytes or more than four".into());
+        };
+        let exchange = expedited_write(&mut node, &mut table, multiplexor, data);
+        print_exchange(rt, exchange)?;
+    }
+    println!(rt, "Entries of node 5")?;
+    print_entries(rt, &table)?;
+    println!(rt, "")?;
+    let commits = node.commits();
+    println!(rt, "Values set: {commits}")?;
+    Ok(())
+}
+
+/// Prints the two frames of an exchange and what the node said.
+fn print_exchange(rt: &LibcRuntime, exchange: Exchange) -> Result<(), AnyError> {
+    let request = exchange.request;
+    println!(rt, "   {request}")?;
+    if let Some(reply) = exchange.reply {
+        println!(rt, "   {reply}")?;
+    }
+    match exchange.outcome {
+        Outcome::Accepted => println!(rt, "   accepted")?,
+        Outcome::Refused(code) => {
+            let words = code.words();
+            println!(rt, "   refused: {code} {words}")?
+        }
+        Outcome::NotAwaited => println!(rt, "   no answer that fits")?,
+    }
+    println!(rt, "")?;
+    Ok(())
+}

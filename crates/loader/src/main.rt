@@ -1,0 +1,70 @@
+//! Loads orders from standard input into the sample node, and prints what was done.
+mod entries;
+mod hex_bytes;
+mod load;
+
+use load::load_all;
+use orders::BadLineDisplay;
+use orders::Order;
+use orders::read_orders;
+use std::env;
+use std::error::AnyError;
+use std::io::Read;
+
+const HELP: &str = "Loads orders from standard input into the sample node (node number 5).
+
+usage: loader < ORDERS
+       loader --help
+
+An order is a line of text: the index in four hex digits, a colon, the subindex
+in two, then one to four bytes in two hex digits each, as
+
+    2000:01 E8 03
+
+Blank lines and lines that start with # are passed over. All lines are read
+before the first frame is made: if one is no order, nothing is set.
+
+For each order the loader prints the request frame and the answer frame as
+candump writes them, and whether the node accepted it; at the end the node's
+entries with their values, and how many values were set.";
+
+fn main(rt: LibcRuntime) -> Result<(), AnyError> {
+    rt.report(run(&rt))
+}
+
+fn run(rt: &LibcRuntime) -> Result<(), AnyError> {
+    if asks_for_help(rt)? {
+        rt.println(HELP)?;
+        return Ok(());
+    }
+    let mut text = Vec::new(rt.alloc());
+    rt.stdin().read_to_end(&mut text)?;
+    let orders = orders_of(rt, &text)?;
+    load_all(rt, &orders)?;
+    Ok(())
+}
+
+/// Whether the arguments ask for help; any other argument is an error.
+fn asks_for_help(rt: &LibcRuntime) -> Result<bool, AnyError> {
+    let mut asked = false;
+    for argument in env::args(rt)?.skip(1) {
+        if argument.as_str() != "--help" && argument.as_str() != "-h" {
+            eprintln!(rt, "loader: {argument} is no argument of this program")?;
+            return Err("try --help".into());
+        }
+        asked = true;
+    }
+    Ok(asked)
+}
+
+/// The orders of a text; where some lines are none, each is named with its number and the reason.
+fn orders_of(rt: &LibcRuntime, text: &[u8]) -> Result<Vec<Order>, AnyError> {
+    let reading = read_orders(rt.alloc(), text)?;
+    if reading.bad.is_empty() {
+        return Ok(reading.orders);
+    }
+    for bad in reading.bad.iter() {
+        eprintln!(rt, "{bad}")?;
+    }
+    Err("nothing was set".into())
+}

@@ -1,0 +1,5 @@
+mod Backs
+mod Cuts
+mod Digits
+mod Turns
+mod Values

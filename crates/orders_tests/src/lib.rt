@@ -1,0 +1,3 @@
+//! Tests of the text form of orders.
+#[cfg(test)]
+mod tests;
