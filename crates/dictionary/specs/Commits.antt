@@ -10,7 +10,7 @@ use Rattle.wire.specs.declared.abort_code.AbortCode.{AbortCode}
 use Rattle.dictionary.specs.Entries.{Entry, put}
 use Rattle.dictionary.specs.Verdicts.{write-verdict}
 
-abbrev pub decided : Option AbortCode → Result (Unit {0}) AbortCode
+abbrev pub decided : {C : Type 0} → Option C → Result (Unit {0}) C
 decided None = Ok tt
 decided (Some c) = Err c
 

@@ -4,3 +4,10 @@ pub mod Entries
 pub mod Verdicts
 pub mod Questions
 pub mod Commits
+pub mod Plain
+pub mod Layouts
+pub mod TableLaws
+pub mod Tables
+pub mod Places
+pub mod Additions
+pub mod Samples

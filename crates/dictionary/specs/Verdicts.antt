@@ -29,9 +29,9 @@ is-there (Some e) = true
 -- the entry is there
 abbrev pub presence : List Entry → Multiplexor → List (Bool × AbortCode)
 presence d m =
-  (not (has-index (m .index) d), NoObject)
-  ∷ (not (is-there (entry-at m d)), NoSubindex)
-  ∷ []
+    (not (has-index (m .index) d), NoObject)
+    ∷ (not (is-there (entry-at m d)), NoSubindex)
+    ∷ []
 
 abbrev pub write-access : List Entry → Multiplexor → List (Bool × AbortCode)
 write-access d m = (of-entry (entry-at m d) (λ e. not (writes (e .access))), ReadOnly) ∷ []
@@ -42,9 +42,9 @@ read-access d m = (of-entry (entry-at m d) (λ e. not (reads (e .access))), Writ
 -- a length fits the entry
 abbrev pub fitting : List Entry → Multiplexor → ℕ → List (Bool × AbortCode)
 fitting d m n =
-  (of-entry (entry-at m d) (λ e. ltb n (e .shortest)), LengthTooLow)
-  ∷ (of-entry (entry-at m d) (λ e. ltb (e .longest) n), LengthTooHigh)
-  ∷ []
+    (of-entry (entry-at m d) (λ e. ltb n (e .shortest)), LengthTooLow)
+    ∷ (of-entry (entry-at m d) (λ e. ltb (e .longest) n), LengthTooHigh)
+    ∷ []
 
 -- the entry admits a value
 abbrev pub admission : List Entry → Multiplexor → List ℕ → List (Bool × AbortCode)

@@ -49,7 +49,7 @@ abbrev pub exchange : NodeNumber → List Entry → Multiplexor → List ℕ →
 exchange n d m v = record {
   request = request-frame n (request.InitiateDownload m (Expedited v));
   reply = Some (answer-frame n (answer-by (write-verdict d m v) m));
-  outcome = outcome-by (write-verdict d m v)
+  outcome = outcome-by (write-verdict d m v);
 }
 
 -- the node counts an accepted write, modulo 65,536

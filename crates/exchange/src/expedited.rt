@@ -4,9 +4,9 @@ ghost use Rattle.wire.specs.Transfers.{value-in};
 ghost use Rattle.dictionary.specs.Commits.{committed};
 ghost use Rattle.dictionary.specs.Verdicts.{write-verdict};
 ghost use Rattle.exchange.specs.Outcomes.{exchange, node-after};
-use crate::outcome::outcome_of;
 use crate::outcome::Outcome;
 use crate::outcome::OutcomeDebug;
+use crate::outcome::outcome_of;
 use dictionary::Writable;
 use node::Node;
 use wire::ExpeditedData;
@@ -25,13 +25,24 @@ pub struct Exchange {
 }
 
 /// Writes a value at a node: it is accepted and set where the dictionary has no verdict, else refused by the verdict's code.
-pub fn expedited_write<D: Writable>(node: &mut Node, dictionary: &mut D, multiplexor: Multiplexor, value: ExpeditedData) -> Exchange
+pub fn expedited_write<D: Writable>(
+    node: &mut Node,
+    dictionary: &mut D,
+    multiplexor: Multiplexor,
+    value: ExpeditedData,
+) -> Exchange
     ensures answer { λ r. ⌜ r ≡ exchange (now (node .entry) .number) (D·Readable .meaning (now (dictionary .entry))) multiplexor (value-in value) ⌝ }
     ensures node { λ _. ⌜ now (node .exit) ≡ node-after (write-verdict (D·Readable .meaning (now (dictionary .entry))) multiplexor (value-in value)) (now (node .entry)) ⌝ }
     ensures dictionary { λ _. ⌜ D·Readable .meaning (now (dictionary .exit)) ≡ committed (D·Readable .meaning (now (dictionary .entry))) multiplexor (value-in value) ⌝ }
 {
     let transfer = Transfer::Expedited { data: value };
-    let request = Frame::of_request(node.number(), Request::InitiateDownload { multiplexor, transfer });
+    let request = Frame::of_request(
+        node.number(),
+        Request::InitiateDownload {
+            multiplexor,
+            transfer,
+        },
+    );
     let reaction = node.serve(dictionary, request);
     let outcome = outcome_of(multiplexor, reaction.reply);
     Exchange {

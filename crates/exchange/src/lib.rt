@@ -2,7 +2,7 @@
 mod expedited;
 mod outcome;
 
-pub use expedited::expedited_write;
 pub use expedited::Exchange;
+pub use expedited::expedited_write;
 pub use outcome::Outcome;
 pub use outcome::OutcomeDebug;

@@ -37,7 +37,9 @@ fn told(multiplexor: Multiplexor, answer: Answer) -> Outcome
     ensures { λ r. ⌜ r ≡ answer-says multiplexor (shown-answer answer) ⌝ }
 {
     match answer {
-        Answer::InitiateDownload { multiplexor: written } => {
+        Answer::InitiateDownload {
+            multiplexor: written,
+        } => {
             if written == multiplexor {
                 Outcome::Accepted
             } else {

@@ -2,7 +2,8 @@
 use crate::entries::print_entries;
 use crate::hex_bytes::HexBytes;
 use crate::hex_bytes::HexBytesDisplay;
-use dictionary::Table;
+use dictionary::TableReadable;
+use dictionary::TableWritable;
 use dictionary::sample;
 use exchange::Exchange;
 use exchange::Outcome;
@@ -16,44 +17,47 @@ use wire::FrameDisplay;
 use wire::MultiplexorDisplay;
 use wire::NodeNumber;
 
+/// The sample node's number.
+const SAMPLE_NODE: u8 = 5;
+
 /// Loads all orders into a new sample node, and prints each exchange, the entries and the count.
 pub fn load_all(rt: &LibcRuntime, orders: &[Order]) -> Result<(), AnyError> {
     let mut table = sample();
-    let mut node = Node::new(NodeNumber::nearest(5));
+    let mut node = Node::new(NodeNumber::nearest(SAMPLE_NODE));
     for (i, order) in orders.iter().enumerate() {
         let place = i.saturating_add(1);
         let multiplexor = order.multiplexor;
         let value = HexBytes(&order.value);
-        println!(rt, "{place}. {multiplexor} set to {value}")?;
+        println!(rt, "Order {place}: {multiplexor} {value}")?;
         let Some(data) = ExpeditedData::new(&order.value) else {
-            return Err("an order has no bytes or more than four".into());
+            return Err("an order has no bytes, or more than a start carries".into());
         };
-        let exchange = expedited_write(&mut node, &mut table, multiplexor, data);
-        print_exchange(rt, exchange)?;
+        print_exchange(
+            rt,
+            expedited_write(&mut node, &mut table, multiplexor, data),
+        )?;
     }
-    println!(rt, "Entries of node 5")?;
+    println!(rt, "Entries of node {SAMPLE_NODE}")?;
     print_entries(rt, &table)?;
-    println!(rt, "")?;
     let commits = node.commits();
-    println!(rt, "Values set: {commits}")?;
+    println!(rt, "\nValues set: {commits}")?;
     Ok(())
 }
 
 /// Prints the two frames of an exchange and what the node said.
 fn print_exchange(rt: &LibcRuntime, exchange: Exchange) -> Result<(), AnyError> {
     let request = exchange.request;
-    println!(rt, "   {request}")?;
+    println!(rt, "  request   {request}")?;
     if let Some(reply) = exchange.reply {
-        println!(rt, "   {reply}")?;
+        println!(rt, "  answer    {reply}")?;
     }
     match exchange.outcome {
-        Outcome::Accepted => println!(rt, "   accepted")?,
+        Outcome::Accepted => println!(rt, "  accepted\n")?,
         Outcome::Refused(code) => {
             let words = code.words();
-            println!(rt, "   refused: {code} {words}")?
+            println!(rt, "  refused   {code} {words}\n")?
         }
-        Outcome::NotAwaited => println!(rt, "   no answer that fits")?,
+        Outcome::NotAwaited => println!(rt, "  not understood\n")?,
     }
-    println!(rt, "")?;
     Ok(())
 }

@@ -29,7 +29,13 @@ candump writes them, and whether the node accepted it; at the end the node's
 entries with their values, and how many values were set.";
 
 fn main(rt: LibcRuntime) -> Result<(), AnyError> {
-    rt.report(run(&rt))
+    match run(&rt) {
+        Ok(()) => Ok(()),
+        Err(error) => {
+            eprintln!(rt, "loader: {error}")?;
+            Err(error)
+        }
+    }
 }
 
 fn run(rt: &LibcRuntime) -> Result<(), AnyError> {
@@ -49,8 +55,7 @@ fn asks_for_help(rt: &LibcRuntime) -> Result<bool, AnyError> {
     let mut asked = false;
     for argument in env::args(rt)?.skip(1) {
         if argument.as_str() != "--help" && argument.as_str() != "-h" {
-            eprintln!(rt, "loader: {argument} is no argument of this program")?;
-            return Err("try --help".into());
+            return Err(format!(rt.alloc(), "unknown argument {argument}, try --help")?.into());
         }
         asked = true;
     }
@@ -66,5 +71,5 @@ fn orders_of(rt: &LibcRuntime, text: &[u8]) -> Result<Vec<Order>, AnyError> {
     for bad in reading.bad.iter() {
         eprintln!(rt, "{bad}")?;
     }
-    Err("nothing was set".into())
+    Err("not all lines are orders, so nothing was set".into())
 }

@@ -16,9 +16,17 @@ use crate::transfer::TransferPartialEq;
 /// An answer, by the CiA 301 name of its protocol.
 #[derive(Clone, Copy, PartialEq, Eq, Debug)]
 pub enum Answer {
-    InitiateDownload { multiplexor: Multiplexor },
-    InitiateUpload { multiplexor: Multiplexor, transfer: Transfer },
-    Abort { multiplexor: Multiplexor, code: AbortCode },
+    InitiateDownload {
+        multiplexor: Multiplexor,
+    },
+    InitiateUpload {
+        multiplexor: Multiplexor,
+        transfer: Transfer,
+    },
+    Abort {
+        multiplexor: Multiplexor,
+        code: AbortCode,
+    },
 }
 
 impl Answer {
@@ -28,8 +36,15 @@ impl Answer {
     {
         match self {
             Answer::InitiateDownload { multiplexor } => layout::message(0x60, multiplexor, [0; 4]),
-            Answer::InitiateUpload { multiplexor, transfer } => layout::initiate(0x40, multiplexor, transfer),
-            Answer::Abort { multiplexor, code } => layout::message(0x80, multiplexor, code.number().to_le_bytes()),
+            Answer::InitiateUpload {
+                multiplexor,
+                transfer,
+            } => layout::initiate(0x40, multiplexor, transfer),
+            Answer::Abort { multiplexor, code } => layout::message(
+                0x80,
+                multiplexor,
+                code.number().to_le_bytes(),
+            ),
         }
     }
 

@@ -25,7 +25,11 @@ pub(crate) fn initiate(command: u8, multiplexor: Multiplexor, transfer: Transfer
     requires { ⌜ command < 0xf0 ⌝ }
     ensures { λ r. ⌜ r ≡ (command + transfer-bits (shown-transfer transfer)) ∷ (multiplexor-bytes multiplexor ++ transfer-bytes (shown-transfer transfer)) ⌝ }
 {
-    message(command + transfer_bits(transfer), multiplexor, transfer_bytes(transfer))
+    message(
+        command + transfer_bits(transfer),
+        multiplexor,
+        transfer_bytes(transfer),
+    )
 }
 
 /// The low bits of a start's command.
@@ -78,10 +82,14 @@ pub(crate) fn transfer(bytes: [u8; 8]) -> Transfer
     ensures { λ r. ⌜ shown-transfer r ≡ transfer-in bytes ⌝ }
 {
     if bytes[0] / 2 % 2 == 1 {
-        return Transfer::Expedited { data: expedited(bytes) };
+        return Transfer::Expedited {
+            data: expedited(bytes),
+        };
     }
     if bytes[0] % 2 == 1 {
-        return Transfer::Segmented { size: Some(number(bytes)) };
+        return Transfer::Segmented {
+            size: Some(number(bytes)),
+        };
     }
     Transfer::Segmented { size: None }
 }

@@ -16,9 +16,17 @@ use crate::transfer::TransferPartialEq;
 /// A request, by the CiA 301 name of its protocol.
 #[derive(Clone, Copy, PartialEq, Eq, Debug)]
 pub enum Request {
-    InitiateDownload { multiplexor: Multiplexor, transfer: Transfer },
-    InitiateUpload { multiplexor: Multiplexor },
-    Abort { multiplexor: Multiplexor, code: AbortCode },
+    InitiateDownload {
+        multiplexor: Multiplexor,
+        transfer: Transfer,
+    },
+    InitiateUpload {
+        multiplexor: Multiplexor,
+    },
+    Abort {
+        multiplexor: Multiplexor,
+        code: AbortCode,
+    },
 }
 
 impl Request {
@@ -27,9 +35,16 @@ impl Request {
         ensures { λ r. ⌜ r ≡ request-bytes (shown-request self) ⌝ }
     {
         match self {
-            Request::InitiateDownload { multiplexor, transfer } => layout::initiate(0x20, multiplexor, transfer),
+            Request::InitiateDownload {
+                multiplexor,
+                transfer,
+            } => layout::initiate(0x20, multiplexor, transfer),
             Request::InitiateUpload { multiplexor } => layout::message(0x40, multiplexor, [0; 4]),
-            Request::Abort { multiplexor, code } => layout::message(0x80, multiplexor, code.number().to_le_bytes()),
+            Request::Abort { multiplexor, code } => layout::message(
+                0x80,
+                multiplexor,
+                code.number().to_le_bytes(),
+            ),
         }
     }
 

@@ -24,7 +24,10 @@ use wire::Request;
 use wire::Transfer;
 
 /// The multiplexor of an abort that answers no start.
-const NOWHERE: Multiplexor = Multiplexor { index: 0, subindex: 0 };
+const NOWHERE: Multiplexor = Multiplexor {
+    index: 0,
+    subindex: 0,
+};
 
 impl Node {
     /// Serves one frame over the node's dictionary.
@@ -49,14 +52,22 @@ impl Node {
         ensures dictionary { λ _. ⌜ D·Readable .meaning (now (dictionary .exit)) ≡ dictionary-after (asked (D·Readable .meaning (now (dictionary .entry))) (shown-request request)) (D·Readable .meaning (now (dictionary .entry))) ⌝ }
     {
         match request {
-            Request::InitiateDownload { multiplexor, transfer } => self.download(dictionary, multiplexor, transfer),
+            Request::InitiateDownload {
+                multiplexor,
+                transfer,
+            } => self.download(dictionary, multiplexor, transfer),
             Request::InitiateUpload { multiplexor } => self.upload(dictionary, multiplexor),
             Request::Abort { .. } => dropped(),
         }
     }
 
     /// The start of a write: an expedited value is committed.
-    fn download<D: Writable>(&mut self, dictionary: &mut D, multiplexor: Multiplexor, transfer: Transfer) -> Reaction
+    fn download<D: Writable>(
+        &mut self,
+        dictionary: &mut D,
+        multiplexor: Multiplexor,
+        transfer: Transfer,
+    ) -> Reaction
         ensures answer { λ r. ⌜ r ≡ reaction (now (self .entry) .number) (download-step (D·Readable .meaning (now (dictionary .entry))) multiplexor (shown-transfer transfer)) ⌝ }
         ensures node { λ _. ⌜ now (self .exit) ≡ counted (download-step (D·Readable .meaning (now (dictionary .entry))) multiplexor (shown-transfer transfer)) (now (self .entry)) ⌝ }
         ensures dictionary { λ _. ⌜ D·Readable .meaning (now (dictionary .exit)) ≡ dictionary-after (download-step (D·Readable .meaning (now (dictionary .entry))) multiplexor (shown-transfer transfer)) (D·Readable .meaning (now (dictionary .entry))) ⌝ }

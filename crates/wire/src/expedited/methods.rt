@@ -27,28 +27,40 @@ impl ExpeditedData {
     pub(crate) fn one(a: u8) -> ExpeditedData
         ensures { λ r. ⌜ value-in r ≡ a ∷ [] ⌝ }
     {
-        ExpeditedData { bytes: [a, 0, 0, 0], len: 1 }
+        ExpeditedData {
+            bytes: [a, 0, 0, 0],
+            len: 1,
+        }
     }
 
     /// A value of two bytes.
     pub(crate) fn two(a: u8, b: u8) -> ExpeditedData
         ensures { λ r. ⌜ value-in r ≡ a ∷ b ∷ [] ⌝ }
     {
-        ExpeditedData { bytes: [a, b, 0, 0], len: 2 }
+        ExpeditedData {
+            bytes: [a, b, 0, 0],
+            len: 2,
+        }
     }
 
     /// A value of three bytes.
     pub(crate) fn three(a: u8, b: u8, c: u8) -> ExpeditedData
         ensures { λ r. ⌜ value-in r ≡ a ∷ b ∷ c ∷ [] ⌝ }
     {
-        ExpeditedData { bytes: [a, b, c, 0], len: 3 }
+        ExpeditedData {
+            bytes: [a, b, c, 0],
+            len: 3,
+        }
     }
 
     /// A value of four bytes.
     pub(crate) fn four(a: u8, b: u8, c: u8, d: u8) -> ExpeditedData
         ensures { λ r. ⌜ value-in r ≡ a ∷ b ∷ c ∷ d ∷ [] ⌝ }
     {
-        ExpeditedData { bytes: [a, b, c, d], len: 4 }
+        ExpeditedData {
+            bytes: [a, b, c, d],
+            len: 4,
+        }
     }
 
     /// The value.

@@ -13,9 +13,9 @@ returns-in-Err g c =
     let v = c .value .result .now in
     let said = c .in-Err .ensures tt in
     let e : download d m (shown-transfer (c .args .transfer)) ≡ Refuse m (c .in-Err .code) =
-      ap (λ t. download d m (shown-transfer t)) (c .in-Expedited .is) ∙ simp (← c .value .ensures) (refused-step d m v (c .in-Err .code) (said .answer)) in
+    ap (λ t. download d m (shown-transfer t)) (c .in-Expedited .is) ∙ simp (← c .value .ensures) (refused-step d m v (c .in-Err .code) (said .answer)) in
     record {
       answer = simp e (c .abort-in-Err .ensures);
       node = simp e;
-      dictionary = simp e (said .after ∙ refused-leaves d m v (c .in-Err .code) (said .answer))
+      dictionary = simp e (said .after ∙ refused-leaves d m v (c .in-Err .code) (said .answer));
     }

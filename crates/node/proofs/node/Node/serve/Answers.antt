@@ -13,5 +13,5 @@ returns-in-Some g c =
     record {
       answer = simp e (c .answer .ensures .answer);
       node = simp e (c .answer .ensures .node);
-      dictionary = simp e (c .answer .ensures .dictionary)
+      dictionary = simp e (c .answer .ensures .dictionary);
     }

@@ -1,3 +1,0 @@
-//! Tests of the text form of orders.
-#[cfg(test)]
-mod tests;
