@@ -1,12 +1,12 @@
 -- A verdict's code is one that an abort carries unchanged.
 use mathlib.Core.Path.{_≡_, refl, subst}
-use mathlib.Core.Bool.{Bool, true, false, cond}
+use mathlib.Core.Bool.{Bool, true, false}
 use mathlib.Core.List.{List, [], _∷_, _++_}
 use Prim.Native.Nat.{ℕ}
 use native.Mathlib.Omega.{arith}
 use lib.Dec.{lit<}
 use lib.ListN.{length}
-use Rattle.std.specs.declared.option.Option.the-variants.{None, Some}
+use Rattle.std.specs.declared.option.Option.the-variants.{Some}
 use Rattle.wire.specs.declared.multiplexor.Multiplexor.{Multiplexor}
 use Rattle.wire.specs.declared.abort_code.AbortCode.{AbortCode}
 use Rattle.wire.specs.RoundTrips.{Proper}

@@ -2,7 +2,7 @@
 use mathlib.Core.Path.{_≡_, ap, sym, _∙_}
 use mathlib.Core.Bool.{cond}
 use mathlib.Core.List.{List}
-use Prim.Native.Nat.{ℕ, _+_}
+use Prim.Native.Nat.{_+_}
 use borrow.Author.Tests.{eq-eqb}
 use Rattle.std.specs.declared.option.Option.the-variants.{Some}
 use Rattle.wire.specs.declared.node_number.NodeNumber.{NodeNumber}

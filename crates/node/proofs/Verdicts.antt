@@ -1,7 +1,7 @@
 -- What a dictionary's answer tells of its verdict, and so of the node's step.
 use mathlib.Core.Path.{_≡_, refl, ap}
 use mathlib.Core.Bool.{Bool, true, false, cond}
-use mathlib.Core.List.{List, [], _∷_}
+use mathlib.Core.List.{List}
 use Prim.Native.Nat.{ℕ}
 use lib.Dec.{leb, ltb}
 use borrow.Author.Tests.{ltb-true, lt-leb}
@@ -14,7 +14,6 @@ use Rattle.std.specs.declared.option.Option.the-variants.{None, Some}
 use Rattle.std.specs.declared.result.Result.the-variants.{Ok, Err}
 use Rattle.wire.specs.declared.multiplexor.Multiplexor.{Multiplexor}
 use Rattle.wire.specs.declared.abort_code.AbortCode.{AbortCode}
-use Rattle.wire.specs.declared.abort_code.AbortCode.the-variants.{UnknownCommand}
 use Rattle.wire.specs.Transfers.{Expedited}
 use Rattle.dictionary.specs.declared.refusal.CopyRefusal.{CopyRefusal}
 use Rattle.dictionary.specs.declared.refusal.CopyRefusal.the-variants.{Verdict, ShortBuffer}

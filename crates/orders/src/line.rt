@@ -1,6 +1,5 @@
 //! Orders read from lines.
 ghost use mathlib.Core.Path.{_≡_};
-ghost use Prim.Native.Nat.{_-_};
 ghost use Rattle.orders.specs.Lines.{is-comment, without-return, value-in, order-in, line-meaning, Fills, ReadsValue, Reads};
 ghost use Rattle.orders.specs.Pieces.{words};
 use crate::fault::Fault;

@@ -1,5 +1,5 @@
 -- Frames: an identifier of 11 bits and eight bytes.
-use Prim.Native.Nat.{ℕ, _+_, _<_}
+use Prim.Native.Nat.{_+_}
 use native.Mathlib.Omega.{arith}
 use Rattle.wire.specs.declared.identifier.Identifier.{Identifier}
 use Rattle.wire.specs.declared.node_number.NodeNumber.{NodeNumber}

@@ -1,9 +1,7 @@
 -- Reading what was made gives back what went in, for every message that fits its frame.
 use mathlib.Core.Path.{_≡_}
-use mathlib.Core.List.{List}
 use Prim.Native.Nat.{ℕ, _^_, _<_, _≤_}
 use lib.ListN.{length}
-use Rattle.std.specs.declared.option.Option.{Option}
 use Rattle.std.specs.declared.option.Option.the-variants.{None, Some}
 use Rattle.wire.specs.declared.multiplexor.Multiplexor.{Multiplexor}
 use Rattle.wire.specs.declared.abort_code.AbortCode.{AbortCode}

@@ -4,7 +4,6 @@ use mathlib.Core.Bool.{cond}
 use Prim.Native.Nat.{ℕ, _+_, _/_, _%_}
 use lib.Chars.{codes}
 use lib.Dec.{ltb}
-use lib.ListN.{getD}
 use Rattle.wire.specs.AbortCodes.{number}
 use Rattle.wire.specs.declared.abort_code.AbortCode.{AbortCode}
 use Rattle.wire.specs.declared.frame.Frame.{Frame}

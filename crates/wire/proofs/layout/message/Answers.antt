@@ -1,7 +1,4 @@
-use mathlib.Core.Path.{ap}
-use mathlib.Core.List.{_∷_}
 use borrow.Author.Needs.{needs}
-use Rattle.wire.specs.Fields.{multiplexor-bytes}
 use Rattle.wire.proofs.Spelling.{spelled}
 use Rattle.wire.proofs.layout.message.Needs as need
 

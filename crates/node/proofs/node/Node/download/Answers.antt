@@ -1,8 +1,6 @@
-use mathlib.Core.Path.{_≡_, ap, sym, _∙_}
-use borrow.Author.Needs.{needs}
+use mathlib.Core.Path.{_≡_, ap, _∙_}
 use Rattle.wire.specs.Transfers.{shown-transfer}
 use Rattle.node.specs.Steps.{Refuse, download}
-use Rattle.node.specs.Nodes.{reaction, counted, dictionary-after}
 use Rattle.node.proofs.Verdicts.{refused-step, refused-leaves}
 use Rattle.node.proofs.node.Node.download.Needs as need
 

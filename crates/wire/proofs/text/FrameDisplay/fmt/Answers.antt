@@ -1,7 +1,6 @@
-use mathlib.Core.Path.{_≡_, subst, ap}
+use mathlib.Core.Path.{_≡_, ap}
 use borrow.Author.Needs.{needs}
 use lib.ListN.{length}
-use Rattle.std.specs.Written.{Put}
 use Rattle.wire.specs.Texts.{bytes-text}
 use Rattle.wire.proofs.Spelling.{spelled}
 use Rattle.wire.proofs.text.FrameDisplay.fmt.Needs as need

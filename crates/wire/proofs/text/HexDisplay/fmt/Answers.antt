@@ -1,4 +1,4 @@
-use mathlib.Core.Path.{_≡_, subst}
+use mathlib.Core.Path.{subst}
 use Rattle.std.specs.Written.{Put}
 use Rattle.wire.specs.Texts.{hex-digit}
 use Prim.Native.Nat.{_/_, _%_}

@@ -1,4 +1,4 @@
-use mathlib.Core.Path.{_≡_, subst}
+use mathlib.Core.Path.{subst}
 use Prim.Native.Nat.{_/_, _%_}
 use Rattle.std.specs.Written.{Put}
 use Rattle.wire.specs.Texts.{hex-digit, hex-byte}
