@@ -1,4 +1,4 @@
-//! What a partner may do with an entry (CiA 301, 7.4.8: the access attribute of an object).
+//! What a partner may do with an entry (CiA 301, 7.4: the access attribute of an object dictionary entry).
 ghost use mathlib.Core.Path.{_≡_};
 ghost use Rattle.dictionary.specs.Accesses.{number, reads, writes};
 

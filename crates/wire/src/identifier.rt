@@ -1,4 +1,4 @@
-//! Who a frame comes from and what it is for (CiA 301, 7.3.5: the predefined connection set).
+//! Who a frame comes from and what it is for (CiA 301, 7.3.3: the generic pre-defined connection set).
 ghost use mathlib.Core.Path.{_≡_};
 ghost use Prim.Native.Nat.{_+_, _<_};
 ghost use Rattle.std.specs.Options.{mapped};

@@ -1,4 +1,4 @@
-//! The number by which a node is addressed (CiA 301, 7.1.4: the node-ID).
+//! The number by which a node is addressed (CiA 301: the node-ID).
 ghost use mathlib.Core.Path.{_≡_};
 ghost use Prim.Native.Nat.{_≤_};
 ghost use Rattle.wire.specs.Ranges.{nearest};
