@@ -1,7 +1,7 @@
 //! An empty table, and one entry more.
 ghost use mathlib.Core.Path.{_≡_};
 ghost use mathlib.Core.List.{[], _∷_, _++_};
-ghost use Prim.Native.Nat.{_+_};
+ghost use Prim.Native.Nat.{_+_, _≤_};
 ghost use lib.Dec.{leb, ltb};
 ghost use lib.ListN.{length};
 ghost use Rattle.std.specs.declared.option.Option.the-variants.{None};
@@ -79,24 +79,49 @@ impl Table {
     fn is_full(&self) -> bool
         ensures { λ r. ⌜ r ≡ leb 64 (length (table-entries (now (self .entry)))) ⌝ }
     {
-        self.count >= MOST_ENTRIES
+        self.len() >= MOST_ENTRIES
     }
 
     /// Whether a longest length is more than the bytes that are left.
     fn lacks_room(&self, longest: u16) -> bool
         ensures { λ r. ⌜ r ≡ ltb 4096 (needed (table-entries (now (self .entry))) + longest) ⌝ }
     {
-        self.reserved + longest as usize > MOST_BYTES
+        self.needed() + longest as usize > MOST_BYTES
     }
 
     /// Whether a multiplexor is above that of the last entry.
     fn is_above_last(&self, multiplexor: Multiplexor) -> bool
         ensures { λ r. ⌜ r ≡ is-above (last-at (table-entries (now (self .entry)))) multiplexor ⌝ }
     {
-        if self.count == 0 {
-            return true;
+        match self.last() {
+            Some(last) => last < multiplexor,
+            None => true,
         }
-        self.rows[self.count - 1].multiplexor < multiplexor
+    }
+
+    /// How many entries there are.
+    fn len(&self) -> usize
+        ensures { λ r. ⌜ r ≡ length (table-entries (now (self .entry))) ⌝ }
+    {
+        self.count
+    }
+
+    /// How many bytes the longest lengths of all entries take together.
+    fn needed(&self) -> usize
+        ensures value { λ r. ⌜ r ≡ needed (table-entries (now (self .entry))) ⌝ }
+        ensures bound { λ r. ⌜ r ≤ 4096 ⌝ }
+    {
+        self.reserved
+    }
+
+    /// The multiplexor of the last entry.
+    fn last(&self) -> Option<Multiplexor>
+        ensures { λ r. ⌜ r ≡ last-at (table-entries (now (self .entry))) ⌝ }
+    {
+        if self.count == 0 {
+            return None;
+        }
+        Some(self.rows[self.count - 1].multiplexor)
     }
 
     /// Takes an entry that nothing speaks against.
