@@ -10,7 +10,7 @@ pub enum Access {
 }
 
 impl Access {
-    /// The access as lists write it: 1 read, 2 write, 3 both.
+    /// The number of the access: 1 read, 2 write, 3 both.
     pub fn number(self) -> u8
         ensures { λ r. ⌜ r ≡ number self ⌝ }
     {

@@ -1,4 +1,4 @@
-//! Why a call on a dictionary was turned away. The numbers are those of the one list of refusals.
+//! Why a call on a dictionary was turned away, with the numbers of docs/refusals.md.
 ghost use mathlib.Core.Path.{_≡_};
 ghost use Rattle.dictionary.specs.Refusals.{add-number, copy-number};
 use wire::AbortCode;

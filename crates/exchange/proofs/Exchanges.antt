@@ -1,7 +1,7 @@
 -- An exchange by the verdict on its write.
 use mathlib.Core.Path.{_≡_, refl, ap, sym, _∙_}
 use mathlib.Core.List.{List}
-use Prim.Native.Nat.{ℕ, _≤_}
+use Prim.Native.Nat.{ℕ, _+_, _≤_}
 use borrow.Author.Tests.{eq-eqb}
 use lib.ListN.{length}
 use Rattle.std.specs.declared.option.Option.{Option}
@@ -44,6 +44,10 @@ module _ (n : NodeNumber) (m : Multiplexor) (own : Indexed m) (v : List ℕ) whe
   node-left (Some c) k = refl
 
   -- and the reply tells the verdict
-  pub outcome-made : (w : Option AbortCode) → ((c : AbortCode) → w ≡ Some c → Proper c) → reply-says m (Some (answer-frame n (answer-by w m))) ≡ outcome-by w
-  outcome-made None proper = ap (some-answer-says m) (answers-read-back (answer.InitiateDownload m) own) ∙ rw (eq-eqb (m .index) (m .index) refl, eq-eqb (m .subindex) (m .subindex) refl)
-  outcome-made (Some c) proper = ap (some-answer-says m) (answers-read-back (answer.Abort m c) (own, proper c refl))
+  pub outcome-made : (w : Option AbortCode) → ((c : AbortCode) → w ≡ Some c → Proper c) → reply-says n m (Some (answer-frame n (answer-by w m))) ≡ outcome-by w
+  outcome-made None proper =
+      rw (eq-eqb (0x580 + n .number) (0x580 + n .number) refl)
+      (ap (some-answer-says m) (answers-read-back (answer.InitiateDownload m) own) ∙ rw (eq-eqb (m .index) (m .index) refl, eq-eqb (m .subindex) (m .subindex) refl))
+  outcome-made (Some c) proper =
+      rw (eq-eqb (0x580 + n .number) (0x580 + n .number) refl)
+      (ap (some-answer-says m) (answers-read-back (answer.Abort m c) (own, proper c refl)))

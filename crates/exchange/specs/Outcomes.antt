@@ -2,6 +2,7 @@
 use mathlib.Core.Bool.{cond}
 use mathlib.Core.List.{List}
 use Prim.Native.Nat.{ℕ, _+_, _%_}
+use lib.Dec.{eqb}
 use Rattle.std.specs.declared.option.Option.{Option}
 use Rattle.std.specs.declared.option.Option.the-variants.{None, Some}
 use Rattle.wire.specs.declared.multiplexor.Multiplexor.{Multiplexor}
@@ -12,7 +13,7 @@ use Rattle.wire.specs.Multiplexors.{same}
 use Rattle.wire.specs.Transfers.{Expedited}
 use Rattle.wire.specs.Requests as request
 use Rattle.wire.specs.Answers.{Answer, answer-in, InitiateDownload, InitiateUpload, Abort}
-use Rattle.wire.specs.Frames.{request-frame, answer-frame}
+use Rattle.wire.specs.Frames.{answer-identifier, request-frame, answer-frame}
 use Rattle.dictionary.specs.Entries.{Entry}
 use Rattle.dictionary.specs.Verdicts.{write-verdict}
 use Rattle.node.specs.declared.node.Node.{Node}
@@ -30,10 +31,14 @@ abbrev pub some-answer-says : Multiplexor → Option Answer → Outcome
 some-answer-says m None = NotAwaited
 some-answer-says m (Some a) = answer-says m a
 
+-- what a frame says of it, if it is the node's
+abbrev pub frame-says : NodeNumber → Multiplexor → Frame → Outcome
+frame-says n m f = cond (eqb (f .identifier .number) (answer-identifier n .number)) (some-answer-says m (answer-in (f .bytes))) NotAwaited
+
 -- what a reply says of it, if one came
-abbrev pub reply-says : Multiplexor → Option Frame → Outcome
-reply-says m None = NotAwaited
-reply-says m (Some f) = some-answer-says m (answer-in (f .bytes))
+abbrev pub reply-says : NodeNumber → Multiplexor → Option Frame → Outcome
+reply-says n m None = NotAwaited
+reply-says n m (Some f) = frame-says n m f
 
 -- a write without a verdict is accepted; one with a verdict is refused by its code
 abbrev pub outcome-by : Option AbortCode → Outcome

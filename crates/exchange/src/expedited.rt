@@ -35,16 +35,17 @@ pub fn expedited_write<D: Writable>(
     ensures node { λ _. ⌜ now (node .exit) ≡ node-after (write-verdict (D·Readable .meaning (now (dictionary .entry))) multiplexor (value-in value)) (now (node .entry)) ⌝ }
     ensures dictionary { λ _. ⌜ D·Readable .meaning (now (dictionary .exit)) ≡ committed (D·Readable .meaning (now (dictionary .entry))) multiplexor (value-in value) ⌝ }
 {
+    let number = node.number();
     let transfer = Transfer::Expedited { data: value };
     let request = Frame::of_request(
-        node.number(),
+        number,
         Request::InitiateDownload {
             multiplexor,
             transfer,
         },
     );
     let reaction = node.serve(dictionary, request);
-    let outcome = outcome_of(multiplexor, reaction.reply);
+    let outcome = outcome_of(number, multiplexor, reaction.reply);
     Exchange {
         request,
         reply: reaction.reply,

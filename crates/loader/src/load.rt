@@ -24,6 +24,7 @@ const SAMPLE_NODE: u8 = 5;
 pub fn load_all(rt: &LibcRuntime, orders: &[Order]) -> Result<(), AnyError> {
     let mut table = sample();
     let mut node = Node::new(NodeNumber::nearest(SAMPLE_NODE));
+    let mut accepted: usize = 0;
     for (i, order) in orders.iter().enumerate() {
         let place = i.saturating_add(1);
         let multiplexor = order.multiplexor;
@@ -32,15 +33,16 @@ pub fn load_all(rt: &LibcRuntime, orders: &[Order]) -> Result<(), AnyError> {
         let Some(data) = ExpeditedData::new(&order.value) else {
             return Err("an order has no bytes, or more than a start carries".into());
         };
-        print_exchange(
-            rt,
-            expedited_write(&mut node, &mut table, multiplexor, data),
-        )?;
+        let exchange = expedited_write(&mut node, &mut table, multiplexor, data);
+        print_exchange(rt, exchange)?;
+        if let Outcome::Accepted = exchange.outcome {
+            accepted = accepted.saturating_add(1);
+        }
     }
     println!(rt, "Entries of node {SAMPLE_NODE}")?;
     print_entries(rt, &table)?;
-    let commits = node.commits();
-    println!(rt, "\nValues set: {commits}")?;
+    let refused = orders.len().saturating_sub(accepted);
+    println!(rt, "\nValues set: {accepted}, orders refused: {refused}")?;
     Ok(())
 }
 

@@ -22,11 +22,13 @@ in two, then one to four bytes in two hex digits each, as
     2000:01 E8 03
 
 Blank lines and lines that start with # are passed over. All lines are read
-before the first frame is made: if one is no order, nothing is set.
+before the first frame is made: if one is no order, it is named with its number
+and the reason, nothing is set, and the program ends with status 1.
 
-For each order the loader prints the request frame and the answer frame as
-candump writes them, and whether the node accepted it; at the end the node's
-entries with their values, and how many values were set.";
+For each order the loader prints the request frame and the answer frame in
+candump's log form, and whether the node accepted it; at the end the node's
+entries with their values, and how many orders were accepted and refused. Such
+a run ends with status 0.";
 
 fn main(rt: LibcRuntime) -> Result<(), AnyError> {
     match run(&rt) {
@@ -64,12 +66,21 @@ fn asks_for_help(rt: &LibcRuntime) -> Result<bool, AnyError> {
 
 /// The orders of a text; where some lines are none, each is named with its number and the reason.
 fn orders_of(rt: &LibcRuntime, text: &[u8]) -> Result<Vec<Order>, AnyError> {
-    let reading = read_orders(rt.alloc(), text)?;
-    if reading.bad.is_empty() {
-        return Ok(reading.orders);
+    match read_orders(rt.alloc(), without_mark(text))?.into_orders() {
+        Ok(orders) => Ok(orders),
+        Err(bad) => {
+            for line in bad.iter() {
+                eprintln!(rt, "{line}")?;
+            }
+            Err("not all lines are orders, so nothing was set".into())
+        }
     }
-    for bad in reading.bad.iter() {
-        eprintln!(rt, "{bad}")?;
+}
+
+/// A text but for the byte order mark that some editors put at its front.
+fn without_mark(text: &[u8]) -> &[u8] {
+    match text {
+        [0xef, 0xbb, 0xbf, rest @ ..] => rest,
+        _ => text,
     }
-    Err("not all lines are orders, so nothing was set".into())
 }

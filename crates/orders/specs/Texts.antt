@@ -1,8 +1,14 @@
 -- What a text of orders says: the orders of its lines, and its lines that are none.
 use mathlib.Core.Path.{_≡_}
 use mathlib.Core.List.{List, [], _∷_, _++_, map}
+use mathlib.Core.Bool.{cond}
 use Prim.Native.Nat.{ℕ, _+_}
-use Rattle.std.specs.Of.Vec.{vec-items}
+use lib.Dec.{eqb}
+use Rattle.std.specs.Of.Vec.{vec-items, vec-len}
+use Rattle.std.specs.declared.alloc.Global.{Global}
+use Rattle.std.specs.declared.result.Result.{Result}
+use Rattle.std.specs.declared.result.Result.the-variants.{Ok, Err}
+use Rattle.std.specs.declared.vec.Vec.{Vec}
 use Rattle.wire.specs.declared.multiplexor.Multiplexor.{Multiplexor}
 use Rattle.orders.specs.declared.bad_line.BadLine.{BadLine}
 use Rattle.orders.specs.declared.order.Order.{Order}
@@ -39,3 +45,7 @@ bad-in n (l ∷ ls) = bad-on n (line-meaning l) ++ bad-in (n + 1) ls
 pub record Adds (n : ℕ) (l : Meaning) (before after : Reading) : Type 0 where
   pub orders : map content (vec-items (after .orders)) ≡ map content (vec-items (before .orders)) ++ orders-on l
   pub bad : vec-items (after .bad) ≡ vec-items (before .bad) ++ bad-on n l
+
+-- all orders, or all lines that are none where there is one
+abbrev pub all-or-none : Reading → Result (Vec Order Global) (Vec BadLine Global)
+all-or-none x = cond (eqb (vec-len (x .bad)) 0) (Ok (x .orders)) (Err (x .bad))

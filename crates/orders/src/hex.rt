@@ -25,7 +25,7 @@ fn byte(high: u8, low: u8) -> Option<u8>
 }
 
 /// The byte that a word writes.
-pub fn read_byte(word: &[u8]) -> Option<u8>
+pub(crate) fn read_byte(word: &[u8]) -> Option<u8>
     ensures { λ r. ⌜ r ≡ byte-in (now (word .entry)) ⌝ }
 {
     match word {
@@ -35,7 +35,7 @@ pub fn read_byte(word: &[u8]) -> Option<u8>
 }
 
 /// The multiplexor that a word writes.
-pub fn read_multiplexor(word: &[u8]) -> Option<Multiplexor>
+pub(crate) fn read_multiplexor(word: &[u8]) -> Option<Multiplexor>
     ensures { λ r. ⌜ r ≡ multiplexor-in (now (word .entry)) ⌝ }
 {
     let [a, b, c, d, b':', e, f] = word else {

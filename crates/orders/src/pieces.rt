@@ -9,7 +9,7 @@ ghost use Rattle.orders.specs.Pieces.{parts, pieces, words};
 
 /// What parts one piece from the next.
 #[derive(Clone, Copy)]
-pub enum Separator {
+pub(crate) enum Separator {
     Blank,
     LineEnd,
 }
@@ -41,7 +41,7 @@ fn front_length(bytes: &[u8], at: Separator) -> usize
 }
 
 /// The first piece of what is not empty, and what stands after its separator.
-pub fn cut(bytes: &[u8], at: Separator) -> (&[u8], &[u8])
+pub(crate) fn cut(bytes: &[u8], at: Separator) -> (&[u8], &[u8])
     ensures first { λ r. ⌜ (0 < length (now (bytes .entry)) → pieces at (now (bytes .entry)) ≡ now (r .0) ∷ pieces at (now (r .1))) ⌝ }
     ensures less { λ r. ⌜ (0 < length (now (bytes .entry)) → length (now (r .1)) < length (now (bytes .entry))) ⌝ }
 {
@@ -53,7 +53,7 @@ pub fn cut(bytes: &[u8], at: Separator) -> (&[u8], &[u8])
 }
 
 /// The first word of a line, and what stands after it.
-pub fn next_word(line: &[u8]) -> Option<(&[u8], &[u8])>
+pub(crate) fn next_word(line: &[u8]) -> Option<(&[u8], &[u8])>
     ensures first { λ r. ⌜ BySome r (words (now (line .entry)) ≡ []) (λ p. words (now (line .entry)) ≡ now (p .0) ∷ words (now (p .1))) ⌝ }
     ensures less { λ r. ⌜ BySome r (Unit {0}) (λ p. length (now (p .1)) < length (now (line .entry))) ⌝ }
 {

@@ -5,7 +5,7 @@ ghost use Rattle.std.specs.Of.Vec.{vec-items};
 ghost use Rattle.std.specs.Vec.{made};
 ghost use Rattle.orders.specs.Lines.{line-meaning};
 ghost use Rattle.orders.specs.Pieces.{lines};
-ghost use Rattle.orders.specs.Texts.{Adds, content, orders-in, bad-in};
+ghost use Rattle.orders.specs.Texts.{Adds, content, orders-in, bad-in, all-or-none};
 use crate::bad_line::BadLine;
 use crate::fault::Fault;
 use crate::line::read_line;
@@ -23,6 +23,14 @@ pub struct Reading {
 }
 
 impl Reading {
+    /// All orders, or all lines that are none where there is one.
+    pub fn into_orders(self) -> Result<Vec<Order>, Vec<BadLine>>
+        ensures { λ r. ⌜ r ≡ all-or-none self ⌝ }
+    {
+        let Reading { orders, bad } = self;
+        if bad.is_empty() { Ok(orders) } else { Err(bad) }
+    }
+
     /// Adds what a line says.
     fn add_line(&mut self, heap: Global, number: usize, line: &[u8]) -> Result<(), AllocError>
         ensures { λ r. ⌜ made r (λ _. Adds number (line-meaning (now (line .entry))) (now (self .entry)) (now (self .exit))) ⌝ }

@@ -159,3 +159,16 @@ fn a_text_of_nothing(rt: LibcRuntime) -> Result<(), Fail> {
     let reading = read_orders(rt.alloc(), b"")?;
     check(reading.orders.is_empty() && reading.bad.is_empty())
 }
+
+#[test]
+fn one_bad_line_keeps_all_orders_back(rt: LibcRuntime) -> Result<(), Fail> {
+    let heap = rt.alloc();
+    check(matches!(
+        read_orders(heap, b"2000:01 05\n2000:01 0\n")?.into_orders(),
+        Err(_)
+    ))?;
+    match read_orders(heap, b"2000:01 05\n# all good\n2000:01 06\n")?.into_orders() {
+        Ok(orders) => check_eq(orders.len(), 2),
+        Err(_) => Err(Fail::new("no line is bad")),
+    }
+}

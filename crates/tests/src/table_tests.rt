@@ -167,5 +167,6 @@ fn entries_are_found_one_after_the_other() -> Result<(), Fail> {
     check_eq(table.next(at(0x2000, 0)), Some(at(0x2000, 1)))?;
     check_eq(table.next(at(0x2001, 0)), None)?;
     check_eq(table.attributes(at(0x2001, 0)), Ok(both(1, 1024)))?;
+    check_eq(Access::ReadWrite.number(), 3)?;
     check_eq(table.attributes(at(0x2001, 1)), Err(AbortCode::NoSubindex))
 }

@@ -2,17 +2,22 @@
 use mathlib.Core.Path.{_≡_, refl, sym, ap, _∙_}
 use mathlib.Core.List.{List, [], _∷_, _++_}
 use Prim.Native.Nat.{ℕ, _+_, _*_, _/_, _%_, _^_, _<_}
+use borrow.Author.Tests.{eqb-true}
+use lib.Dec.{eqb}
+use mathlib.Core.Logic.{inl, inr}
 use native.Mathlib.Nat.{div-div-eq-div-mul}
 use native.Mathlib.Omega.{arith}
+use Rattle.std.proofs.shelf.Tests.{cases-bool}
 use Rattle.std.specs.declared.option.Option.the-variants.{None, Some}
 use Rattle.wire.specs.declared.multiplexor.Multiplexor.{Multiplexor}
 use Rattle.wire.specs.Transfers.{Transfer, Expedited, Segmented, transfer-bits, transfer-bytes, transfer-in}
 use Rattle.wire.specs.declared.abort_code.AbortCode.{AbortCode}
-use Rattle.wire.specs.AbortCodes.{number, code}
+use Rattle.wire.specs.declared.abort_code.AbortCode.the-variants.{ToggleNotAlternated, TimedOut, UnknownCommand, InvalidBlockSize, InvalidSequenceNumber, CrcError, OutOfMemory, WriteOnly, ReadOnly, NoObject, LengthMismatch, LengthTooHigh, LengthTooLow, NoSubindex, InvalidValue, GeneralError, Other}
+use Rattle.wire.specs.AbortCodes.{number, rows, code-among, code}
 use Rattle.wire.specs.Fields.{multiplexor-bytes, multiplexor-in, number-bytes, number-in}
 use Rattle.wire.specs.Requests as request
 use Rattle.wire.specs.Answers as answer
-use Rattle.wire.specs.RoundTrips.{Indexed, Carried, Proper, Requests-read-back, Answers-read-back}
+use Rattle.wire.specs.RoundTrips.{Indexed, Carried, Proper, Requests-read-back, Answers-read-back, Codes-read-back}
 
 two-bytes : (n : ℕ) → n < 2 ^ 16 → n % 256 + n / 256 % 256 * 256 ≡ n
 two-bytes n h = omega arith
@@ -89,3 +94,33 @@ answers-read-back (answer.Abort m c) (own, proper) =
     let rest = number-bytes (number c) in
     ap (λ x. Some (answer.Abort x (code (number-in (0x80 ∷ (multiplexor-bytes m ++ rest)))))) (multiplexor-back m own 0x80 rest)
     ∙ ap (λ x. Some (answer.Abort m x)) (abort-back m own c proper)
+
+number-back : (cs : List AbortCode) (n : ℕ) → number (code-among cs n) ≡ n
+number-back [] n = refl
+number-back (c ∷ cs) n =
+    elim (cases-bool (eqb n (number c))) [
+      | inl same ↦ rw same (sym (eqb-true n (number c) same))
+      | inr other ↦ rw other (number-back cs n)
+    ]
+
+name-back : (c : AbortCode) → ((n : ℕ) → c ≡ Other n → ⊥) → code (number c) ≡ c
+name-back ToggleNotAlternated named = refl
+name-back TimedOut named = refl
+name-back UnknownCommand named = refl
+name-back InvalidBlockSize named = refl
+name-back InvalidSequenceNumber named = refl
+name-back CrcError named = refl
+name-back OutOfMemory named = refl
+name-back WriteOnly named = refl
+name-back ReadOnly named = refl
+name-back NoObject named = refl
+name-back LengthMismatch named = refl
+name-back LengthTooHigh named = refl
+name-back LengthTooLow named = refl
+name-back NoSubindex named = refl
+name-back InvalidValue named = refl
+name-back GeneralError named = refl
+name-back (Other n) named = absurd (named n refl)
+
+pub codes-read-back : Codes-read-back
+codes-read-back = (λ n. number-back rows n, name-back)

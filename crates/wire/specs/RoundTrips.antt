@@ -5,6 +5,7 @@ use lib.ListN.{length}
 use Rattle.std.specs.declared.option.Option.the-variants.{None, Some}
 use Rattle.wire.specs.declared.multiplexor.Multiplexor.{Multiplexor}
 use Rattle.wire.specs.declared.abort_code.AbortCode.{AbortCode}
+use Rattle.wire.specs.declared.abort_code.AbortCode.the-variants.{Other}
 use Rattle.wire.specs.AbortCodes.{number, code}
 use Rattle.wire.specs.Transfers.{Transfer, Expedited, Segmented}
 use Rattle.wire.specs.Requests.{Request, request-bytes, request-in}
@@ -42,6 +43,6 @@ Requests-read-back = (q : Request) → Request-fits q → request-in (request-by
 abbrev pub Answers-read-back : Type 0
 Answers-read-back = (a : Answer) → Answer-fits a → answer-in (answer-bytes a) ≡ Some a
 
--- every number is that of its code
+-- every number is that of its code, and every code that has a name is that of its number
 abbrev pub Codes-read-back : Type 0
-Codes-read-back = (n : ℕ) → number (code n) ≡ n
+Codes-read-back = ((n : ℕ) → number (code n) ≡ n) × ((c : AbortCode) → ((n : ℕ) → c ≡ Other n → ⊥) → code (number c) ≡ c)

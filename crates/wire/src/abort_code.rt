@@ -1,9 +1,8 @@
 //! Why an SDO transfer was aborted (CiA 301, 7.2.4.3.17: abort SDO transfer protocol, its table of codes).
 ghost use mathlib.Core.Path.{_≡_};
 ghost use Rattle.wire.specs.AbortCodes.{number, words, code};
-ghost use Rattle.wire.specs.RoundTrips.{Codes-read-back};
 
-/// The abort codes of CiA 301 that this stack sends, and any other that it may hear.
+/// The abort codes of CiA 301 that have a name here, and any other.
 #[derive(Clone, Copy, PartialEq, Eq, Debug)]
 pub enum AbortCode {
     ToggleNotAlternated,
@@ -78,8 +77,7 @@ impl AbortCode {
 
     /// The code with a number.
     pub fn from_number(n: u32) -> AbortCode
-        ensures code { λ r. ⌜ r ≡ code n ⌝ }
-        ensures read_back { λ _. ⌜ Codes-read-back ⌝ }
+        ensures { λ r. ⌜ r ≡ code n ⌝ }
     {
         match n {
             0x0503_0000 => AbortCode::ToggleNotAlternated,

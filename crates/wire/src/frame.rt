@@ -1,7 +1,6 @@
 //! A CAN data frame as SDO uses it: an identifier and always eight bytes (CiA 301, 7.2.4.3).
 ghost use mathlib.Core.Path.{_≡_};
 ghost use Rattle.wire.specs.Frames.{request-frame, answer-frame};
-ghost use Rattle.wire.specs.RoundTrips.{Requests-read-back, Answers-read-back};
 ghost use Rattle.wire.specs.Requests.{shown-request};
 ghost use Rattle.wire.specs.Answers.{shown-answer};
 use crate::answer::Answer;
@@ -18,10 +17,9 @@ pub struct Frame {
 }
 
 impl Frame {
-    /// A request to a node. Its bytes read back as the request that they were made of.
+    /// A request to a node.
     pub fn of_request(node: NodeNumber, request: Request) -> Frame
-        ensures frame { λ r. ⌜ r ≡ request-frame node (shown-request request) ⌝ }
-        ensures read_back { λ _. ⌜ Requests-read-back ⌝ }
+        ensures { λ r. ⌜ r ≡ request-frame node (shown-request request) ⌝ }
     {
         Frame {
             identifier: Identifier::of_requests(node),
@@ -29,10 +27,9 @@ impl Frame {
         }
     }
 
-    /// An answer of a node. Its bytes read back as the answer that they were made of.
+    /// An answer of a node.
     pub fn of_answer(node: NodeNumber, answer: Answer) -> Frame
-        ensures frame { λ r. ⌜ r ≡ answer-frame node (shown-answer answer) ⌝ }
-        ensures read_back { λ _. ⌜ Answers-read-back ⌝ }
+        ensures { λ r. ⌜ r ≡ answer-frame node (shown-answer answer) ⌝ }
     {
         Frame {
             identifier: Identifier::of_answers(node),

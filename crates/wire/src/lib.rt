@@ -8,6 +8,7 @@ mod layout;
 mod multiplexor;
 mod node_number;
 mod request;
+mod round_trips;
 mod text;
 mod transfer;
 
@@ -45,6 +46,7 @@ pub use request::Request;
 pub use request::RequestDebug;
 pub use request::RequestEq;
 pub use request::RequestPartialEq;
+pub use round_trips::messages_read_back;
 pub use text::AbortCodeDisplay;
 pub use text::FrameDisplay;
 pub use text::Hex;

@@ -27,12 +27,12 @@ returns g c =
     let few : length v ≤ 4 = simp length-take (omega arith) in
     let served = c .serve-reaction .ensures in
     let sent : c .of-request-request .result ≡ request-frame n (InitiateDownload m (Expedited v)) =
-    c .of-request-request .ensures .frame ∙ ap (λ k. request-frame k (InitiateDownload m (Expedited v))) (c .number .ensures) in
+    c .of-request-request .ensures ∙ ap (λ k. request-frame k (InitiateDownload m (Expedited v))) (c .number-number .ensures) in
     let taken : step d n (c .of-request-request .result) ≡ unless w m (Commit m v) = ap (step d n) sent ∙ step-taken n m own v d some few in
     let replied : c .serve-reaction .result .reply ≡ Some (answer-frame n (answer-by w m)) =
     ap (λ r. r .reply) (served .answer) ∙ ap (λ s. reaction n s .reply) taken ∙ reply-made n m own v w in
     let told : c .outcome-of-outcome .result ≡ outcome-by w =
-    c .outcome-of-outcome .ensures ∙ ap (reply-says m) replied ∙ outcome-made n m own v w (verdict-proper d m v) in
+    c .outcome-of-outcome .ensures ∙ ap (λ k. reply-says k m (c .serve-reaction .result .reply)) (c .number-number .ensures) ∙ ap (reply-says n m) replied ∙ outcome-made n m own v w (verdict-proper d m v) in
     record {
       answer = λ i. record { request = sent i; reply = replied i; outcome = told i };
       node = served .node ∙ ap (λ s. counted s (c .args .node .now)) taken ∙ node-left n m own v w (c .args .node .now);

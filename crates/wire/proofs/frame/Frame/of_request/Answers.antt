@@ -1,9 +1,8 @@
 use Rattle.wire.specs.Frames.{request-identifier}
 use Rattle.wire.proofs.Identifiers.{same-identifier}
-use Rattle.wire.proofs.RoundTrips.{requests-read-back}
 use Rattle.wire.proofs.frame.Frame.of_request.Needs as need
 
 pub returns : need.returns
 returns c =
     let same = same-identifier (c .of-requests .result) (request-identifier (c .args .node)) (c .of-requests .ensures) in
-    record { frame = cc; read-back = requests-read-back }
+    cc
