@@ -1,14 +1,13 @@
 -- A row laid behind all others: the rows stay laid, and the dictionary has one entry more at its end.
 use mathlib.Core.Path.{_≡_, refl, ap, _∙_}
 use mathlib.Core.List.{List, [], _∷_, _++_}
-use mathlib.Core.Bool.{Bool, true, false, not, cond}
+use mathlib.Core.Bool.{true, not}
 use Prim.Native.Nat.{ℕ, _+_, _-_, _≤_, _<_}
 use native.Mathlib.Omega.{arith}
 use lib.Dec.{leb, ltb}
 use lib.ListN.{length, set, take}
 use Rattle.std.proofs.shelf.Lists.{take-more, take-more-set}
 use Rattle.std.proofs.shelf.Tests.{and-parts, and-from, eq-eqb, eqb-true, leb-false, ltb-false, not-false}
-use Rattle.std.specs.declared.option.Option.{Option}
 use Rattle.std.specs.declared.option.Option.the-variants.{None, Some}
 use Rattle.wire.specs.declared.multiplexor.Multiplexor.{Multiplexor}
 use Rattle.dictionary.specs.declared.attributes.Attributes.{Attributes}
@@ -23,6 +22,7 @@ use Rattle.dictionary.specs.Tables.{used, table-entries}
 use Rattle.dictionary.proofs.Laying.{entries-below}
 use Rattle.dictionary.proofs.Lengths.{fits-longest, lawful-fits}
 use Rattle.dictionary.proofs.Overwriting.{take-overwritten, read-overwritten}
+use Rattle.dictionary.proofs.Presence.{passed}
 use Rattle.dictionary.proofs.TableFacts.{table-length, table-needed}
 
 -- the last of a list with one more
@@ -67,11 +67,6 @@ pub record Free (t : Table) (m : Multiplexor) (a : Attributes) (v : List ℕ) : 
   pub lawful : lawful-lengths a (length v) ≡ true
   pub room : t .reserved + a .longest ≤ 4096
   pub short : length v ≤ a .longest
-
--- where nothing applies, neither a first test does nor what follows it
-passed : {C : Type 0} (b : Bool) (x : C) (rest : Option C) → cond b (Some x) rest ≡ None → (b ≡ false) × (rest ≡ None)
-passed true x rest h = let z : _≡_ {A = ℕ} 0 1 = cc in absurd (omega arith)
-passed false x rest h = (refl, h)
 
 module _ (t : Table) (m : Multiplexor) (a : Attributes) (v : List ℕ) where
   -- the row of a new entry

@@ -1,7 +1,7 @@
 -- What it says of a dictionary's answers that an entry is there, and at which place.
 use mathlib.Core.Path.{_≡_, refl, ap}
 use mathlib.Core.List.{List, [], _∷_, _++_}
-use mathlib.Core.Bool.{Bool, true, cond}
+use mathlib.Core.Bool.{Bool, true, false, cond}
 use Prim.Native.Nat.{ℕ, zero, suc, _+_, _≤_, _<_}
 use native.Mathlib.Omega.{arith}
 use lib.ListN.{length, getD}
@@ -20,6 +20,11 @@ use Rattle.dictionary.specs.Places.{place-from, put-at}
 use Rattle.dictionary.specs.Plain.{plain, objection}
 use Rattle.dictionary.specs.Verdicts.{first-of, presence, read-access, write-access, fitting, admission, read-verdict, write-verdict}
 
+-- where nothing applies, neither a first test does nor what follows it
+pub passed : {C : Type 0} (b : Bool) (x : C) (rest : Option C) → cond b (Some x) rest ≡ None → (b ≡ false) × (rest ≡ None)
+passed true x rest h = let z : _≡_ {A = ℕ} 0 1 = cc in absurd (omega arith)
+passed false x rest h = (refl, h)
+
 module _ (m : Multiplexor) where
   -- the entry at a multiplexor has its index
   index-there : (d : List Entry) (e : Entry) → entry-at m d ≡ Some e → has-index (m .index) d ≡ true
@@ -28,7 +33,7 @@ module _ (m : Multiplexor) where
       let ih = index-there fs e in grind (arith, tells, ih)
 
   -- where there is one, the verdict goes by the tests behind
-  verdict-present : (d : List Entry) (ts : List (Bool × AbortCode)) (e : Entry) → entry-at m d ≡ Some e → first-of (presence d m ++ ts) ≡ first-of ts
+  pub verdict-present : (d : List Entry) (ts : List (Bool × AbortCode)) (e : Entry) → entry-at m d ≡ Some e → first-of (presence d m ++ ts) ≡ first-of ts
   verdict-present d ts e h = let i = index-there d e h in grind (arith, h, i)
 
   -- the verdict on a read of an entry

@@ -11,3 +11,4 @@ pub mod Tables
 pub mod Places
 pub mod Additions
 pub mod Samples
+pub mod Laws

@@ -1,6 +1,7 @@
 //! Object dictionaries: what every dictionary promises, and the table that holds its values in memory.
 mod access;
 mod attributes;
+mod laws;
 mod readable;
 mod refusal;
 mod row;
@@ -16,6 +17,7 @@ pub use attributes::Attributes;
 pub use attributes::AttributesDebug;
 pub use attributes::AttributesEq;
 pub use attributes::AttributesPartialEq;
+pub use laws::dictionary_laws;
 pub use readable::Readable;
 pub use refusal::AddRefusal;
 pub use refusal::AddRefusalDebug;
