@@ -1,0 +1,3 @@
+mod Linearity
+mod Bytes
+mod Endings
