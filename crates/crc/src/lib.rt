@@ -1,4 +1,6 @@
 //! The check value (CRC) of SDO block transfers, CiA 301: generator x^16 + x^12 + x^5 + 1, start 0, highest bit first.
+#![tactic(auto)]
+
 mod laws;
 mod register;
 mod table;

@@ -1,4 +1,6 @@
 //! Object dictionaries: what every dictionary promises, and the table that holds its values in memory.
+#![tactic(auto)]
+
 mod access;
 mod attributes;
 mod laws;

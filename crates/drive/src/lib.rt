@@ -1,4 +1,6 @@
 //! A drive: a dictionary that holds numbers and shows bytes, with two objects of CiA 402.
+#![tactic(auto)]
+
 mod acceleration;
 mod drive;
 mod laws;

@@ -1,4 +1,6 @@
 //! One order carried out at a node: the frames of a master and a node that reach each other without a line between them.
+#![tactic(auto)]
+
 mod expedited;
 mod outcome;
 

@@ -1,4 +1,6 @@
 //! Functions that C can call. The benchmark measures them.
+#![tactic(auto)]
+
 ghost use Rattle.std.specs.Prelude.{◌≡◌};
 ghost use Rattle.crc.specs.Registers.{crc};
 ghost use Rattle.std.specs.Option.{option_map};

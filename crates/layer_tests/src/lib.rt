@@ -1,4 +1,6 @@
 //! Layers over any dictionary and any line, and one owner of both: proved for all of them, and run over some.
+#![tactic(auto)]
+
 mod handing_dictionary;
 mod handing_line;
 #[cfg(test)]

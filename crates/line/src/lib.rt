@@ -1,4 +1,6 @@
 //! What carries frames between a master and a node, and may lose them; nothing of what the frames mean.
+#![tactic(auto)]
+
 mod drop_layer;
 mod end;
 mod line;

@@ -1,4 +1,6 @@
 //! Loads orders from standard input into the sample node, and prints what was done.
+#![tactic(auto)]
+
 mod entries;
 mod hex_bytes;
 mod load;

@@ -1,4 +1,6 @@
 //! The master: the SDO client of CiA 301, which reads and writes the values of a node. It is stepped by calls and says what is to be done on the line.
+#![tactic(auto)]
+
 mod heard;
 mod laws;
 mod master;

@@ -1,4 +1,6 @@
 //! Runs of a master, frame by frame: with a correct partner, with one that is not, and in time. Each is proved, and then run.
+#![tactic(auto)]
+
 #[cfg(test)]
 mod bad_partner;
 #[cfg(test)]

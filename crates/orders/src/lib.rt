@@ -1,4 +1,6 @@
 //! The orders of a load as text: one order a line, a multiplexor and the bytes to write there.
+#![tactic(auto)]
+
 mod bad_line;
 mod fault;
 mod hex;

@@ -1,4 +1,6 @@
 //! The SDO messages of CiA 301: what stands in the eight bytes of a frame, and nothing of lines, dictionaries or time.
+#![tactic(auto)]
+
 mod answer;
 mod block_request;
 mod block_size;

@@ -1,4 +1,6 @@
 //! Tests of frames and messages on examples: each is proved, and then run.
+#![tactic(auto)]
+
 #[cfg(test)]
 mod frame_tests;
 #[cfg(test)]

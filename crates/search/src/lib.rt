@@ -1,4 +1,6 @@
 //! One binary search for rows with keys of any kind that is in order.
+#![tactic(auto)]
+
 mod binary;
 mod key;
 mod keyed;

@@ -1,4 +1,6 @@
 //! Tests of the library crates on examples: each is proved, and then run.
+#![tactic(auto)]
+
 #[cfg(test)]
 mod crc_tests;
 #[cfg(test)]

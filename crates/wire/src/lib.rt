@@ -1,4 +1,6 @@
 //! The SDO wire format of CiA 301: what stands in a frame, and nothing of lines, dictionaries or time.
+#![tactic(auto)]
+
 mod abort_code;
 mod answer;
 mod expedited;

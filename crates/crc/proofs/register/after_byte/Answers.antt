@@ -7,4 +7,4 @@ pub returns : goal.returns
 returns c =
     let r = c.args.register in
     let up : r * 2 ^ 8 % 2 ^ 16 ≡ r % 2 ^ 8 * 2 ^ 8 = omega arith in
-    ap₂ bit_xor up c.of-byte.ensures ∙ sym (by_byte r c.args.byte (omega arith))
+    ap₂ bit_xor up c.of_byte.ensures ∙ sym (by_byte r c.args.byte (omega arith))

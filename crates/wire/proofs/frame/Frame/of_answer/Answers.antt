@@ -4,5 +4,5 @@ use Rattle.wire.proofs.frame.Frame.of_answer.Goals as goal
 
 pub returns : goal.returns
 returns c =
-    let same = same_identifier c.of-answers.result (answer_identifier c.args.node) c.of-answers.ensures in
+    let same = same_identifier c.of_answers.result (answer_identifier c.args.node) c.of_answers.ensures in
     cc

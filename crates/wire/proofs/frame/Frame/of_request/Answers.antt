@@ -4,5 +4,5 @@ use Rattle.wire.proofs.frame.Frame.of_request.Goals as goal
 
 pub returns : goal.returns
 returns c =
-    let same = same_identifier c.of-requests.result (request_identifier c.args.node) c.of-requests.ensures in
+    let same = same_identifier c.of_requests.result (request_identifier c.args.node) c.of_requests.ensures in
     cc
