@@ -6,7 +6,7 @@ use Rattle.orders.proofs.reading.read_orders.Goals as goal
 pub loop-rest-preserved : goal.loop-rest-preserved
 loop-rest-preserved c =
     let some : 0 < length c.loop-rest.rest.now = omega (arith, false-eqb _ 0 c.loop-rest-test.ensures) in
-    (omega (arith, c.cut.ensures.less some), one_more {y = c.add-line.new.self} c.loop-rest.invariant.1 (c.cut.ensures.first some) c.in-ok-add-line.ensures)
+    (omega (arith, c.cut.ensures.less some), one_more {y = c.add_line.new.self} c.loop-rest.invariant.1 (c.cut.ensures.first some) c.in_ok-add_line.ensures)
 
 pub returns : goal.returns
 returns c =

@@ -11,16 +11,23 @@ pub bounds-self-self : goal.bounds-self-self
 bounds-self-self c =
     (free c.args.self.now c.args.multiplexor c.args.attributes c.args.value.now c.requires).row
 
-pub invariant-of-self : goal.invariant-of-self
-invariant-of-self c =
+pub invariant_of-self-clause-sizes : goal.invariant_of-self-clause-sizes
+invariant_of-self-clause-sizes c =
+    let t = c.args.self.now in
+    let f = fresh t c.args.multiplexor c.args.attributes c.args.value.now in
+    (length-set t.rows t.count f ∙ t.sizes.0, c.overwrite.auto.bytes ∙ t.sizes.1)
+
+pub invariant_of-self-clause-bounds : goal.invariant_of-self-clause-bounds
+invariant_of-self-clause-bounds c =
+    let f = free c.args.self.now c.args.multiplexor c.args.attributes c.args.value.now c.requires in (omega arith, omega arith)
+
+pub invariant_of-self-clause-layout : goal.invariant_of-self-clause-layout
+invariant_of-self-clause-layout c =
     let t = c.args.self.now in
     let m = c.args.multiplexor in
     let a = c.args.attributes in
     let v = c.args.value.now in
-    let f = free t m a v c.requires in (
-      (length-set t.rows t.count (fresh t m a v) ∙ t.sizes.0, c.overwrite.auto.bytes ∙ t.sizes.1),
-      ((omega arith, omega arith), (table_extended t m a v f, tt)),
-    )
+    table_extended t m a v (free t m a v c.requires)
 
 pub returns : goal.returns
 returns c =

@@ -12,12 +12,12 @@ overwrite-requires c =
     let slot = table_slot t i c.requires.within in
     let short = fits-longest (row_at t.rows i).attributes (length c.args.value.now) c.requires.fitting in omega arith
 
-pub invariant-of-self : goal.invariant-of-self
-invariant-of-self c =
-    let t = c.args.self.now in
-    let i = c.args.place in
-    let laid = table_resized t i c.requires.within (length c.args.value.now) c.requires.fitting in
-    ((length-set t.rows i _ ∙ t.sizes.0, c.overwrite.auto.bytes ∙ t.sizes.1), (t.bounds, (laid, tt)))
+pub invariant_of-self-clause-sizes : goal.invariant_of-self-clause-sizes
+invariant_of-self-clause-sizes c =
+    let t = c.args.self.now in (length-set t.rows c.args.place _ ∙ t.sizes.0, c.overwrite.auto.bytes ∙ t.sizes.1)
+
+pub invariant_of-self-clause-layout : goal.invariant_of-self-clause-layout
+invariant_of-self-clause-layout c = table_resized c.args.self.now c.args.place c.requires.within (length c.args.value.now) c.requires.fitting
 
 pub returns : goal.returns
 returns c =
