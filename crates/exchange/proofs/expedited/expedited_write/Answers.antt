@@ -21,13 +21,13 @@ returns g c =
     let some : 1 ≤ length v = simp length-take (omega arith) in
     let few : length v ≤ 4 = simp length-take (omega arith) in
     let served = c.serve-reaction.ensures in
-    let sent : c.of-request-request.result ≡ request_frame n (InitiateDownload m (Expedited v)) =
-    c.of-request-request.ensures ∙ ap (λ k. request_frame k (InitiateDownload m (Expedited v))) c.number-number.ensures in
-    let taken : step d n c.of-request-request.result ≡ unless w m (Commit m v) = ap (step d n) sent ∙ step-taken n m own v d some few in
+    let sent : c.of_request-request.result ≡ request_frame n (InitiateDownload m (Expedited v)) =
+    c.of_request-request.ensures ∙ ap (λ k. request_frame k (InitiateDownload m (Expedited v))) c.number-number.ensures in
+    let taken : step d n c.of_request-request.result ≡ unless w m (Commit m v) = ap (step d n) sent ∙ step-taken n m own v d some few in
     let replied : c.serve-reaction.result.reply ≡ Some (answer_frame n (answer_by w m)) =
     ap (λ r. r.reply) served.answer ∙ ap (λ s. (reaction n s).reply) taken ∙ reply_made n m own v w in
-    let told : c.outcome-of-outcome.result ≡ outcome_by w =
-    c.outcome-of-outcome.ensures ∙ ap (λ k. reply_says k m c.serve-reaction.result.reply) c.number-number.ensures ∙ ap (reply_says n m) replied ∙ outcome_made n m own v w (verdict_proper d m v) in
+    let told : c.outcome_of-outcome.result ≡ outcome_by w =
+    c.outcome_of-outcome.ensures ∙ ap (λ k. reply_says k m c.serve-reaction.result.reply) c.number-number.ensures ∙ ap (reply_says n m) replied ∙ outcome_made n m own v w (verdict_proper d m v) in
     record {
       answer = λ i. record { request = sent i; reply = replied i; outcome = told i };
       node = served.node ∙ ap (λ s. counted s c.args.node.now) taken ∙ node-left n m own v w c.args.node.now;

@@ -9,5 +9,5 @@ returns g c =
     record {
       within = omega arith;
       below = inv.2;
-      above = subst (Above g.Key-as-Key.before g.R.Keyed.label c.args.key c.args.rows.now) met inv.3;
+      above = subst (Above g.R.Key.Key.before g.R.Keyed.label c.args.key c.args.rows.now) met inv.3;
     }

@@ -6,8 +6,8 @@ abbrev pub invariant-loop-low : goal.invariant-loop-low
 invariant-loop-low g l =
     (l.low ≤ l.high)
     × (l.high ≤ length l.rows)
-    × Below g.Key-as-Key.before g.R.Keyed.label l.key l.rows l.low
-    × Above g.Key-as-Key.before g.R.Keyed.label l.key l.rows l.high
+    × Below g.R.Key.Key.before g.R.Keyed.label l.key l.rows l.low
+    × Above g.R.Key.Key.before g.R.Keyed.label l.key l.rows l.high
 
 abbrev pub decreases-loop-low : goal.decreases-loop-low
 decreases-loop-low g l = l.high - l.low

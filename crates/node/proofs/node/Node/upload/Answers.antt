@@ -13,7 +13,7 @@ returns-in-Ok g c =
     let said = c.in-Ok.ensures in
     let zeros = 0 ∷ 0 ∷ 0 ∷ 0 ∷ [] in
     let whole : n - 0 ≡ n = omega arith in
-    let front : take (n - 0) c.copy-value.new.buffer ≡ value_at d m = simp (whole, said.after) (read_front d m zeros n said.answer) in
+    let front : take (n - 0) c.copy_value.new.buffer ≡ value_at d m = simp (whole, said.after) (read_front d m zeros n said.answer) in
     simp (read_step d m zeros n said.answer) (c.give.ensures ∙ ap (λ z. reaction c.args.self.now.number (given m z)) front)
 
 pub returns-in-Err : goal.returns-in-Err
