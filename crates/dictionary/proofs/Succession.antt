@@ -1,7 +1,7 @@
 -- The entries of a lawful dictionary stand apart and in order, and the next one above a multiplexor is the lowest.
 use Rattle.std.proofs.Common.{◌≡◌, true, false, cond, ◌⊎◌, List, [], ◌∷◌, Some, sym, refl, ap, ◌∙◌, subst, inl, inr, arith}
-use Rattle.std.proofs.ByRecursion.{All-weaker}
 use Rattle.std.proofs.lemmas.Bool.{both_ways, cases_Bool, false≢true}
+use Rattle.std.proofs.lemmas.List.Elements.{All-nil, All-cons, All-weaker}
 use Rattle.wire.specs.declared.multiplexor.Multiplexor.{Multiplexor}
 use Rattle.wire.specs.Multiplexors.{same, before}
 use Rattle.dictionary.specs.Entries.{Entry, Leads, Lawful, entry_at}
@@ -70,12 +70,12 @@ next_found (e ∷ es) m n (sound, leads, rest) h =
     ]
 
 pub one_entry : OneEntry
-one_entry [] lawful = tt
+one_entry [] lawful = All-nil (λ (e : Entry). entry_at e.at [] ≡ Some e)
 one_entry (e ∷ es) (sound, leads, rest) =
     let own = same_itself e.at in
-    let Found : List Entry → Entry → Type 0 = λ d f. entry_at f.at d ≡ Some f in (
-      rw own,
-      All-weaker (Found es) (Found (e ∷ es))
-          (λ f h. let apart = before_apart e.at f.at (leads_all e es f.at leads rest (ap is_there h)) in rw apart h)
-          es (one_entry es rest),
-    )
+    let Found : List Entry → Entry → Type 0 = λ d f. entry_at f.at d ≡ Some f in
+    let here : Found (e ∷ es) e = rw own in
+    All-cons (Found (e ∷ es)) e es here
+    (All-weaker (Found es) (Found (e ∷ es))
+    (λ f h. let apart = before_apart e.at f.at (leads_all e es f.at leads rest (ap is_there h)) in rw apart h)
+    es (one_entry es rest))

@@ -1,7 +1,6 @@
 -- What follows for every dictionary from the definitions of its verdicts, answers and commits, in the words of one who uses it.
 -- A law speaks of any list d of entries, or of any that is lawful as a dictionary's is, of any multiplexors m, n and k, and of any bytes v.
-use Rattle.std.specs.Prelude.{◌≡◌, ℕ, ◌≤◌, true, false, ◌⊎◌, List, map, length, Some, None}
-use Rattle.std.specs.List.{AllByRecursion as All}
+use Rattle.std.specs.Prelude.{◌≡◌, ℕ, ◌≤◌, true, false, ◌⊎◌, List, map, length, Some, None, All}
 use Rattle.wire.specs.declared.multiplexor.Multiplexor.{Multiplexor}
 use Rattle.wire.specs.declared.abort_code.AbortCode.{AbortCode}
 use Rattle.wire.specs.Multiplexors.{same, before}

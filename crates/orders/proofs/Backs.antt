@@ -1,9 +1,9 @@
 -- Written orders read back: word by word, line by line.
 use Rattle.std.proofs.Common.{◌≡◌, ℕ, ◌+◌, ◌-◌, ◌/◌, ◌%◌, ◌^◌, ◌<◌, ◌≤◌, true, false, eqb, List, [], ◌∷◌, ◌++◌, map, length, get_or, Ok, refl, ap, ◌∙◌, append_assoc, append-nil, arith, length-append}
-use Rattle.std.proofs.ByRecursion.{All-append, All-get_or, All-weaker}
 use Rattle.std.proofs.lemmas.Bool.{cond-false, ne_eqb}
 use Rattle.std.proofs.lemmas.Bool.Decides.{nat_tests}
-use Rattle.std.specs.List.{AllByRecursion as All}
+use Rattle.std.proofs.lemmas.List.Elements.{All-nil, All-cons, All-head, All-tail, All-append, All-get_or, All-weaker}
+use Rattle.std.specs.Prelude.{All}
 use Rattle.wire.specs.declared.multiplexor.Multiplexor.{Multiplexor}
 use Rattle.orders.specs.declared.pieces.Separator.{Separator}
 use Rattle.orders.specs.declared.pieces.Separator.TheVariants.{Blank, LineEnd}
@@ -19,11 +19,15 @@ Whole at w = All (λ b. parts at b ≡ false) w
 
 pieces_first : (at : Separator) (s : ℕ) → parts at s ≡ true → (w rest : List ℕ) → Whole at w → pieces at (w ++ s ∷ rest) ≡ w ∷ pieces at rest
 pieces_first at s sep [] rest whole = rw sep
-pieces_first at s sep (b ∷ w) rest whole = rw whole.0 (ap (onto b) (pieces_first at s sep w rest whole.1))
+pieces_first at s sep (b ∷ w) rest whole =
+    let Part : ℕ → Type 0 = λ c. parts at c ≡ false in
+    let first = All-head Part b w whole in rw first (ap (onto b) (pieces_first at s sep w rest (All-tail Part b w whole)))
 
 pieces-last : (at : Separator) (b : ℕ) (w : List ℕ) → Whole at (b ∷ w) → pieces at (b ∷ w) ≡ (b ∷ w) ∷ []
-pieces-last at b [] whole = rw whole.0
-pieces-last at b (c ∷ w) whole = rw whole.0 (ap (onto b) (pieces-last at c w whole.1))
+pieces-last at b [] whole = let first = All-head (λ c. parts at c ≡ false) b [] whole in rw first
+pieces-last at b (c ∷ w) whole =
+    let Part : ℕ → Type 0 = λ d. parts at d ≡ false in
+    let first = All-head Part b (c ∷ w) whole in rw first (ap (onto b) (pieces-last at c w (All-tail Part b (c ∷ w) whole)))
 
 -- what is above a blank parts no words, and what is no less parts no lines
 dark : (b : ℕ) → 48 ≤ b → parts Blank b ≡ false
@@ -33,13 +37,17 @@ inline : (b : ℕ) → 32 ≤ b → parts LineEnd b ≡ false
 inline b h = grind (arith, nat_tests)
 
 byte_dark : (b : ℕ) → All (λ c. 48 ≤ c) (byte_written b)
-byte_dark b = (digit_above (b / 16), (digit_above (b % 16), tt))
+byte_dark b =
+    let Dark : ℕ → Type 0 = λ c. 48 ≤ c in
+    let high = digit_for (b / 16) in
+    let low = digit_for (b % 16) in
+    All-cons Dark high (low ∷ []) (digit_above (b / 16)) (All-cons Dark low [] (digit_above (b % 16)) (All-nil Dark))
 
 multiplexor_dark : (m : Multiplexor) → All (λ c. 48 ≤ c) (multiplexor_written m)
 multiplexor_dark m =
     All-append (λ c. 48 ≤ c) (byte_written (m.index / 256) ++ byte_written (m.index % 256)) (58 ∷ byte_written m.subindex)
     (All-append (λ c. 48 ≤ c) (byte_written (m.index / 256)) (byte_written (m.index % 256)) (byte_dark (m.index / 256)) (byte_dark (m.index % 256)))
-    (omega arith, byte_dark m.subindex)
+    (All-cons (λ c. 48 ≤ c) 58 (byte_written m.subindex) (omega arith) (byte_dark m.subindex))
 
 lighter : (w : List ℕ) → All (λ c. 48 ≤ c) w → All (λ c. 32 ≤ c) w
 lighter w h = All-weaker (λ c. 48 ≤ c) (λ c. 32 ≤ c) (λ c k. omega arith) w h
@@ -48,14 +56,15 @@ words-written : (c : ℕ) (w v : List ℕ) → Whole Blank (c ∷ w) → words (
 words-written c w [] whole = ap words (append-nil (c ∷ w)) ∙ ap not_empty (pieces-last Blank c w whole)
 words-written c w (b ∷ v) whole =
     ap not_empty (pieces_first Blank 32 refl (c ∷ w) (byte_written b ++ bytes_written v) whole)
-    ∙ ap (λ ws. (c ∷ w) ∷ ws) (words-written (digit_for (b / 16)) (digit_for (b % 16) ∷ []) v (All-weaker _ _ dark (byte_written b) (byte_dark b)))
+    ∙ ap (λ ws. (c ∷ w) ∷ ws) (words-written (digit_for (b / 16)) (digit_for (b % 16) ∷ []) v (All-weaker (λ c. 48 ≤ c) (λ c. parts Blank c ≡ false) dark (byte_written b) (byte_dark b)))
 
 bytes_read : (bs v : List ℕ) → All (λ b. b < 2 ^ 8) v → length bs + length v ≤ longest → bytes_in bs (map byte_written v) ≡ Ok (bs ++ v)
 bytes_read bs [] small fits = rw append-nil
 bytes_read bs (b ∷ v) small fits =
     let room : eqb (length bs) longest ≡ false = ne_eqb _ _ (λ e. omega arith) in
     let fewer : length (bs ++ b ∷ []) + length v ≤ longest = simp length-append (omega arith) in
-    rw (byte_read b small.0, room) (bytes_read (bs ++ b ∷ []) v small.1 fewer ∙ ap Ok (append_assoc bs (b ∷ []) v))
+    let first = byte_read b (All-head (λ c. c < 2 ^ 8) b v small) in
+    rw (first, room) (bytes_read (bs ++ b ∷ []) v (All-tail (λ c. c < 2 ^ 8) b v small) fewer ∙ ap Ok (append_assoc bs (b ∷ []) v))
 
 value_read : (v : List ℕ) → All (λ b. b < 2 ^ 8) v → 0 < length v → length v ≤ longest → value_in (map byte_written v) ≡ Ok v
 value_read [] small some fits = absurd (omega arith)
@@ -63,11 +72,13 @@ value_read (b ∷ v) small some fits = bytes_read [] (b ∷ v) small (omega arit
 
 -- a written line has blanks, and nothing below them
 bytes_light : (v : List ℕ) → All (λ c. 32 ≤ c) (bytes_written v)
-bytes_light [] = tt
-bytes_light (b ∷ v) = (omega arith, All-append _ (byte_written b) (bytes_written v) (lighter (byte_written b) (byte_dark b)) (bytes_light v))
+bytes_light [] = All-nil (λ c. 32 ≤ c)
+bytes_light (b ∷ v) =
+    let Light : ℕ → Type 0 = λ c. 32 ≤ c in
+    All-cons Light 32 (byte_written b ++ bytes_written v) (omega arith) (All-append Light (byte_written b) (bytes_written v) (lighter (byte_written b) (byte_dark b)) (bytes_light v))
 
 light : (m : Multiplexor) (v : List ℕ) → All (λ c. 32 ≤ c) (written m v)
-light m v = All-append _ (multiplexor_written m) (bytes_written v) (lighter (multiplexor_written m) (multiplexor_dark m)) (bytes_light v)
+light m v = All-append (λ c. 32 ≤ c) (multiplexor_written m) (bytes_written v) (lighter (multiplexor_written m) (multiplexor_dark m)) (bytes_light v)
 
 no_return : (line : List ℕ) → All (λ c. 32 ≤ c) line → without_return line ≡ line
 no_return [] h = refl
@@ -78,7 +89,7 @@ no_return (c ∷ line) h =
 
 pub lines_read_back : LinesReadBack
 lines_read_back m v sound =
-    let read : words (written m v) ≡ multiplexor_written m ∷ map byte_written v = words-written _ _ v (All-weaker _ _ dark (multiplexor_written m) (multiplexor_dark m)) in
+    let read : words (written m v) ≡ multiplexor_written m ∷ map byte_written v = words-written _ _ v (All-weaker (λ c. 48 ≤ c) (λ c. parts Blank c ≡ false) dark (multiplexor_written m) (multiplexor_dark m)) in
     let order : is_comment (written m v) ≡ false = ne_eqb _ _ (λ e. omega (arith, digit_above (m.index / 256 / 16))) in
     cond-false _ _ _ order
     ∙ ap (λ l. order_in (words l)) (no_return (written m v) (light m v))
@@ -91,9 +102,10 @@ all_read : (os : List (Multiplexor × List ℕ)) (n : ℕ) → All (λ o. Sound 
 all_read [] n sound = (refl, refl)
 all_read (o ∷ os) n sound =
     let line = written o.0 o.1 in
-    let parted : lines (text_written (o ∷ os)) ≡ line ∷ lines (text_written os) = pieces_first LineEnd 10 refl line (text_written os) (All-weaker _ _ inline line (light o.0 o.1)) in
-    let meant = lines_read_back o.0 o.1 sound.0 in
-    let rest = all_read os (n + 1) sound.1 in (
+    let parted : lines (text_written (o ∷ os)) ≡ line ∷ lines (text_written os) = pieces_first LineEnd 10 refl line (text_written os) (All-weaker (λ c. 32 ≤ c) (λ c. parts LineEnd c ≡ false) inline line (light o.0 o.1)) in
+    let Read : (Multiplexor × List ℕ) → Type 0 = λ q. Sound q.0 q.1 in
+    let meant = lines_read_back o.0 o.1 (All-head Read o os sound) in
+    let rest = all_read os (n + 1) (All-tail Read o os sound) in (
       ap orders_in parted ∙ ap (λ l. orders_on l ++ orders_in (lines (text_written os))) meant ∙ ap (λ l. o ∷ l) rest.0,
       ap (bad_in n) parted ∙ ap (λ l. bad_on n l ++ bad_in (n + 1) (lines (text_written os))) meant ∙ rest.1,
     )

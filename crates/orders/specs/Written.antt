@@ -1,7 +1,6 @@
 -- Orders as text in one plain form: digits in capitals, one blank before each byte, a line end (10) after each order.
 -- A line and a text in this form are read as the orders that they were written from.
-use Rattle.std.specs.Prelude.{◌≡◌, ℕ, ◌+◌, ◌/◌, ◌%◌, ◌^◌, ◌<◌, ◌≤◌, cond, List, [], ◌∷◌, ◌++◌, length, nat_lt}
-use Rattle.std.specs.List.{AllByRecursion as All}
+use Rattle.std.specs.Prelude.{◌≡◌, ℕ, ◌+◌, ◌/◌, ◌%◌, ◌^◌, ◌<◌, ◌≤◌, cond, List, [], ◌∷◌, ◌++◌, length, nat_lt, All}
 use Rattle.wire.specs.declared.multiplexor.Multiplexor.{Multiplexor}
 use Rattle.orders.specs.Lines.{longest, ordered, line_meaning}
 use Rattle.orders.specs.Pieces.{lines}
