@@ -2,16 +2,20 @@ use Rattle.std.proofs.Common.{◌≡◌, ◌-◌, length, arith}
 use Rattle.sdo.proofs.Padding.{zeros_left, value-kept, all_there}
 use Rattle.sdo.proofs.segment_data.SegmentData.fitting.Goals as goal
 
-pub invariant-of-result : goal.invariant-of-result
-invariant-of-result c =
+pub invariant_of-result-clause-seven : goal.invariant_of-result-clause-seven
+invariant_of-result-clause-seven c =
     let v = c.args.value.now in
-    let front = c.copy-from-slice.new.self in
     let whole : length v - 0 ≡ length v = omega arith in
-    let same : front ≡ v = c.copy-from-slice.ensures.after in
-    (omega arith, (all_there 7 v front (length v - 0) same whole (omega arith), (zeros_left 7 v front (length v - 0) same whole, tt)))
+    all_there 7 v c.copy_from_slice.new.self (length v - 0) c.copy_from_slice.ensures.after whole (omega arith)
+
+pub invariant_of-result-clause-rest : goal.invariant_of-result-clause-rest
+invariant_of-result-clause-rest c =
+    let v = c.args.value.now in
+    let whole : length v - 0 ≡ length v = omega arith in
+    zeros_left 7 v c.copy_from_slice.new.self (length v - 0) c.copy_from_slice.ensures.after whole
 
 pub returns : goal.returns
 returns c =
     let v = c.args.value.now in
     let whole : length v - 0 ≡ length v = omega arith in
-    value-kept 7 v c.copy-from-slice.new.self (length v - 0) c.copy-from-slice.ensures.after whole
+    value-kept 7 v c.copy_from_slice.new.self (length v - 0) c.copy_from_slice.ensures.after whole
