@@ -7,6 +7,7 @@ pub mod Overwriting
 pub mod Presence
 pub mod Rows
 pub mod Setting
+pub mod Starts
 pub mod Storing
 pub mod Succession
 pub mod TableFacts

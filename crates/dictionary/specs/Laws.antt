@@ -1,12 +1,12 @@
 -- What follows for every dictionary from the definitions of its verdicts, answers and commits, in the words of one who uses it.
 -- A law speaks of any list d of entries, or of any that is lawful as a dictionary's is, of any multiplexors m, n and k, and of any bytes v.
-use Rattle.std.specs.Prelude.{◌≡◌, ℕ, ◌≤◌, true, false, ◌⊎◌, List, map, length, Some, None, All}
+use Rattle.std.specs.Prelude.{◌≡◌, ℕ, ◌≤◌, true, false, ◌⊎◌, List, map, length, Some, None, Option, All}
 use Rattle.wire.specs.declared.multiplexor.Multiplexor.{Multiplexor}
 use Rattle.wire.specs.declared.abort_code.AbortCode.{AbortCode}
 use Rattle.wire.specs.Multiplexors.{same, before}
 use Rattle.dictionary.specs.Accesses.{reads, writes}
 use Rattle.dictionary.specs.Entries.{Entry, Lawful, entry_at}
-use Rattle.dictionary.specs.Verdicts.{is_there, read_verdict, write_verdict}
+use Rattle.dictionary.specs.Verdicts.{is_there, read_verdict, start_verdict, write_verdict}
 use Rattle.dictionary.specs.Questions.{attributes, value_at, next_above}
 use Rattle.dictionary.specs.Commits.{committed}
 
@@ -82,3 +82,12 @@ pub record CanWrite (d : List Entry) (m : Multiplexor) (v : List ℕ) : Type 0 w
 -- nothing speaks against a write exactly where it can be done
 abbrev pub WriteDecided : Type 0
 WriteDecided = (d : List Entry) (m : Multiplexor) (v : List ℕ) → (write_verdict d m v ≡ None → CanWrite d m v) × (CanWrite d m v → write_verdict d m v ≡ None)
+
+-- a value has the size that was announced for it, if one was
+abbrev pub OfSize : Option ℕ → List ℕ → Type 0
+OfSize None v = Unit {0}
+OfSize (Some n) v = length v ≡ n
+
+-- a start that is refused is refused by the code of the verdict on the write, for every value of the announced size
+abbrev pub StartDecided : Type 0
+StartDecided = (d : List Entry) (m : Multiplexor) (size : Option ℕ) (c : AbortCode) → start_verdict d m size ≡ Some c → (v : List ℕ) → OfSize size v → write_verdict d m v ≡ Some c

@@ -1,5 +1,5 @@
 -- The entries that a table holds: each admits exactly the byte strings whose length fits.
-use Rattle.std.specs.Prelude.{ℕ, Bool, not, ◌&&◌, List, [], ◌∷◌, length, Option, nat_le, nat_lt}
+use Rattle.std.specs.Prelude.{ℕ, Bool, not, ◌&&◌, List, [], ◌∷◌, length, Some, None, Option, nat_le, nat_lt}
 use Rattle.wire.specs.declared.multiplexor.Multiplexor.{Multiplexor}
 use Rattle.wire.specs.declared.abort_code.AbortCode.{AbortCode}
 use Rattle.wire.specs.declared.abort_code.AbortCode.TheVariants.{ReadOnly, LengthTooLow, LengthTooHigh}
@@ -30,3 +30,8 @@ objections a n =
 
 abbrev pub objection : Attributes → ℕ → Option AbortCode
 objection a n = first_of (objections a n)
+
+-- what speaks against the start of a write whose length is known, or is not
+abbrev pub start_objection : Attributes → Option ℕ → Option AbortCode
+start_objection a None = first_of ((not (writes a.access), ReadOnly) ∷ [])
+start_objection a (Some n) = objection a n

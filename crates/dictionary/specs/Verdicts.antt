@@ -49,3 +49,11 @@ write_verdict d m v = first_of (presence d m ++ (write_access d m ++ (fitting d 
 
 abbrev pub read_verdict : List Entry → Multiplexor → Option AbortCode
 read_verdict d m = first_of (presence d m ++ read_access d m)
+
+-- the start of a write is judged before its value is there: by the same tests but for admission, and but for the length where that is unknown
+abbrev pub fitting_size : List Entry → Multiplexor → Option ℕ → List (Bool × AbortCode)
+fitting_size d m None = []
+fitting_size d m (Some n) = fitting d m n
+
+abbrev pub start_verdict : List Entry → Multiplexor → Option ℕ → Option AbortCode
+start_verdict d m size = first_of (presence d m ++ (write_access d m ++ fitting_size d m size))

@@ -1,6 +1,6 @@
 //! What follows for every dictionary from what its answers are defined to be.
 ghost use Rattle.dictionary.specs.Laws.{ValueSet, RefusedKept, OthersKept, OrderKept, AttributesKept, LawfulKept};
-ghost use Rattle.dictionary.specs.Laws.{NextFound, NextNone, OneEntry, ReadDecided, WriteDecided};
+ghost use Rattle.dictionary.specs.Laws.{NextFound, NextNone, OneEntry, ReadDecided, WriteDecided, StartDecided};
 
 /// The laws that hold of every dictionary, whatever implements it. It does nothing; its contract states them.
 pub fn dictionary_laws()
@@ -15,4 +15,5 @@ pub fn dictionary_laws()
     ensures one_entry { OneEntry }
     ensures read_decided { ReadDecided }
     ensures write_decided { WriteDecided }
+    ensures start_decided { StartDecided }
 {}

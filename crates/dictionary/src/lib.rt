@@ -8,6 +8,7 @@ mod readable;
 mod refusal;
 mod row;
 mod samples;
+mod starting;
 mod table;
 mod writable;
 
@@ -17,5 +18,6 @@ pub use laws::dictionary_laws;
 pub use readable::Readable;
 pub use refusal::{AddRefusal, CopyRefusal};
 pub use samples::sample;
+pub use starting::start_verdict;
 pub use table::Table;
 pub use writable::Writable;

@@ -10,6 +10,8 @@ mod reading;
 mod searching;
 mod writing;
 
+pub(crate) use writing::objection;
+
 /// How many entries a table has at most.
 const MOST_ENTRIES: usize = 64;
 

@@ -53,7 +53,7 @@ impl Table {
 }
 
 /// What speaks against a value of some length in an entry with some attributes.
-fn objection(attributes: Attributes, len: usize) -> Option<AbortCode>
+pub(crate) fn objection(attributes: Attributes, len: usize) -> Option<AbortCode>
     ensures { result ≡ objection attributes len }
 {
     if !attributes.access.writes() {

@@ -1,5 +1,6 @@
 use Rattle.dictionary.proofs.Deciding.{read_decided, write_decided}
 use Rattle.dictionary.proofs.Setting.{value_set, refused_kept, others_kept, order_kept, attributes_kept, lawful_kept}
+use Rattle.dictionary.proofs.Starts.{start_decided}
 use Rattle.dictionary.proofs.Succession.{next_found, next_none, one_entry}
 use Rattle.dictionary.proofs.laws.dictionary_laws.Goals as goal
 
@@ -17,4 +18,5 @@ returns c =
       one_entry = one_entry;
       read_decided = read_decided;
       write_decided = write_decided;
+      start_decided = start_decided;
     }
