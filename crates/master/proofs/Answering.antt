@@ -1,5 +1,5 @@
 -- Success is told only after the last answer, and an abort that is heard ends the transfer.
-use Rattle.std.proofs.Common.{◌≡◌, ℕ, ◌-◌, Some, Option, sym, ap, ◌∙◌, arith}
+use Rattle.std.proofs.Common.{◌≡◌, ℕ, Some, Option, sym, ap, ◌∙◌, arith}
 use Rattle.wire.specs.declared.frame.Frame.{Frame}
 use Rattle.wire.specs.declared.multiplexor.Multiplexor.{Multiplexor}
 use Rattle.wire.specs.declared.abort_code.AbortCode.{AbortCode}

@@ -1,12 +1,10 @@
 -- The repeats of a write are bounded: every frame is paid for.
-use Rattle.std.proofs.Common.{◌≡◌, ℕ, ◌+◌, ◌-◌, ◌≤◌, false, cond, ltb, leb, List, [], length, Ok, Err, Option, sym, ap, subst, arith, length-append}
+use Rattle.std.proofs.Common.{◌≡◌, ℕ, ◌+◌, ◌≤◌, false, cond, ltb, leb, List, [], length, Ok, Err, Option, sym, ap, subst, arith, length-append}
 use Rattle.std.proofs.lemmas.Bool.{cond_both, leb-true, and_parts}
 use Rattle.wire.specs.declared.frame.Frame.{Frame}
 use Rattle.wire.specs.declared.multiplexor.Multiplexor.{Multiplexor}
-use Rattle.wire.specs.Multiplexors.{same}
 use Rattle.sdo.specs.Requests.{Request}
 use Rattle.sdo.specs.Answers.{Answer}
-use Rattle.sdo.specs.Answers as answer
 use Rattle.master.specs.declared.phase.Phase.{Phase}
 use Rattle.master.specs.declared.phase.Phase.TheVariants.{Idle, Open, Over}
 use Rattle.master.specs.declared.phase.Awaiting.{Awaiting}

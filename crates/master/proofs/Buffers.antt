@@ -1,5 +1,5 @@
 -- A buffer whose front is a value.
-use Rattle.std.proofs.Common.{◌≡◌, ℕ, ◌+◌, ◌≤◌, List, ◌++◌, length, take, drop, replicate, arith, length-append, length-take}
+use Rattle.std.proofs.Common.{◌≡◌, ℕ, ◌+◌, ◌≤◌, List, ◌++◌, length, take, drop, replicate, arith, length-append, length-take, length-drop}
 use lib.ListN.{length-replicate}
 use lib.Seq.{take-append_seam}
 use Rattle.std.proofs.lemmas.List.{drop-replicate}
@@ -17,3 +17,7 @@ pub room-left : (n : ℕ) (bytes more : List ℕ) → n ≤ 1024 → length byte
 room-left n bytes more few whole h =
     let full : length (take n bytes) ≡ n = simp length-take (omega arith) in
     omega (arith, length-append (take n bytes) more)
+
+-- bytes that are put over others leave the length
+pub length-put : (n j : ℕ) (bytes more : List ℕ) → n + j ≤ length bytes → length more ≡ j → length (take n bytes ++ (more ++ drop j (drop n bytes))) ≡ length bytes
+length-put n j bytes more room e = simp (length-append, length-take, length-drop) (omega arith)

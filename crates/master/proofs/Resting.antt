@@ -5,7 +5,6 @@ use Rattle.wire.specs.declared.frame.Frame.{Frame}
 use Rattle.wire.specs.declared.multiplexor.Multiplexor.{Multiplexor}
 use Rattle.sdo.specs.Requests.{Request}
 use Rattle.sdo.specs.Answers.{Answer}
-use Rattle.sdo.specs.Answers as answer
 use Rattle.master.specs.declared.phase.Phase.{Phase}
 use Rattle.master.specs.declared.phase.Phase.TheVariants.{Idle, Open, Over}
 use Rattle.master.specs.declared.phase.Awaiting.{Awaiting}

@@ -1,16 +1,15 @@
 -- The tenth tick after the master last sent ends an open transfer, and no other does.
-use Rattle.std.proofs.Common.{◌≡◌, ℕ, ◌+◌, ◌-◌, ◌≤◌, true, false, eqb, ltb, List, [], ◌∷◌, ◌++◌, length, Ok, Option, sym, refl, ap, ◌∙◌, subst, arith}
+use Rattle.std.proofs.Common.{◌≡◌, ℕ, ◌+◌, ◌≤◌, true, false, eqb, ltb, List, [], ◌∷◌, ◌++◌, length, Ok, Option, sym, refl, ap, ◌∙◌, subst, arith}
 use Rattle.std.proofs.lemmas.Bool.{cond_both, ltb-true, ltb-false, eq-eqb, ne_eqb}
 use Rattle.wire.specs.declared.frame.Frame.{Frame}
 use Rattle.wire.specs.declared.multiplexor.Multiplexor.{Multiplexor}
 use Rattle.sdo.specs.Answers.{Answer}
-use Rattle.sdo.specs.Answers as answer
 use Rattle.master.specs.declared.heard.Heard.TheVariants as heard
 use Rattle.master.specs.declared.phase.Phase.TheVariants.{Open}
 use Rattle.master.specs.declared.phase.Awaiting.{Awaiting}
 use Rattle.master.specs.States.{State, in_phase, clear}
 use Rattle.master.specs.Steps.{Step, found, told}
-use Rattle.master.specs.Calls.{Order, Started, free, start, begin, counted, tick, give_up}
+use Rattle.master.specs.Calls.{Order, Started, free, start, begin, tick, give_up}
 use Rattle.master.specs.Runs.{Call, Begin, Hear, Tick, GiveUp, Clear, after, sent_in, ticks_in, accepted, begins, Run, none, more}
 use Rattle.master.specs.Laws.{is_open, JustSent, by_begin, by_hear, TenthTickEnds, OnlyOpenTransfersEnd}
 use Rattle.master.proofs.Outcomes.{by_phase, Outcome, goes_on, ended, was_told, succeeded, HeardAs, stays, answers, hear_outcome, accepted_as, refused_as, waits_on, waits_out}

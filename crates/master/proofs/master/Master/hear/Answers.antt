@@ -3,4 +3,4 @@ use Rattle.master.proofs.master.Master.hear.Goals as goal
 
 pub returns : goal.returns
 unfolding hear
-returns c = c.take-in.ensures
+returns c = c.take_in.ensures

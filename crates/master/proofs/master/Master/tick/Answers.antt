@@ -3,4 +3,4 @@ use Rattle.master.proofs.master.Master.tick.Goals as goal
 
 pub returns : goal.returns
 unfolding tick
-returns c = c.pass-tick.ensures
+returns c = c.pass_tick.ensures
