@@ -1,6 +1,7 @@
 //! Frames that a correct partner never sends.
 use crate::runs::*;
 use master::{Finder, Heard, Method};
+use std::test::Fail;
 use wire::{AbortCode, Frame, Identifier, NodeNumber};
 
 #[test]

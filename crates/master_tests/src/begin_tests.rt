@@ -2,6 +2,7 @@
 use crate::runs::*;
 use master::{BeginRefusal, Master, Method};
 use std::process::Abort;
+use std::test::Fail;
 use wire::NodeNumber;
 
 /// Checks that a write of a value is refused by a number.
@@ -26,7 +27,7 @@ fn a_value_has_1_to_1024_bytes(rt: HostRuntime) -> Result<(), Fail> {
 
 #[test]
 fn four_bytes_go_at_once(rt: HostRuntime) -> Result<(), Fail> {
-    assert!(rt; writing(Method::Expedited, &[1, 2, 3, 4])?.value() == [1, 2, 3, 4]);
+    assert!(rt; writing(Method::Expedited, &[1, 2, 3, 4])?.value() == [1, 2, 3, 4].as_slice());
     check_refused(&rt, Method::Expedited, &[1, 2, 3, 4, 5], 5)?;
     check_refused(&rt, Method::Expedited, &[7; 1025], 4)
 }

@@ -1,6 +1,7 @@
 //! Transfers with a partner that does all as it should.
 use crate::runs::*;
 use master::{Heard, Master, Method};
+use std::test::Fail;
 use wire::{Multiplexor, NodeNumber};
 
 #[test]
@@ -41,7 +42,7 @@ fn the_name_is_read(rt: HostRuntime) -> Result<(), Fail> {
         [0x60, 0, 0, 0, 0, 0, 0, 0],
     )?;
     check_done(&rt, &mut master, [3, 0x6c, 0x6f, 0x61, 0x64, 0x65, 0x72, 0])?;
-    assert!(rt; master.value() == b"loader");
+    assert!(rt; master.value() == b"loader".as_slice());
     Ok(())
 }
 
@@ -49,7 +50,7 @@ fn the_name_is_read(rt: HostRuntime) -> Result<(), Fail> {
 fn a_short_value_is_read_at_once(rt: HostRuntime) -> Result<(), Fail> {
     let mut master = reading()?;
     check_done(&rt, &mut master, [0x4b, 1, 0x20, 0, 0xe8, 3, 0, 0])?;
-    assert!(rt; master.value() == [0xe8, 3]);
+    assert!(rt; master.value() == [0xe8, 3].as_slice());
     Ok(())
 }
 
@@ -63,7 +64,7 @@ fn digits_are_read_in_segments(rt: HostRuntime) -> Result<(), Fail> {
         [0x70, 0, 0, 0, 0, 0, 0, 0],
     )?;
     check_done(&rt, &mut master, [0x1b, 0x38, 0x39, 0, 0, 0, 0, 0])?;
-    assert!(rt; master.value() == DIGITS);
+    assert!(rt; master.value() == DIGITS.as_slice());
     Ok(())
 }
 

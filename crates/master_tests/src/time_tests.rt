@@ -2,6 +2,7 @@
 use crate::runs::*;
 use master::{Heard, Master, Method};
 use std::process::Abort;
+use std::test::Fail;
 use wire::AbortCode;
 
 /// Lets some ticks pass, and checks that none of them ends a transfer or quiets the line.

@@ -253,9 +253,9 @@ fn block_sizes_are_pulled_into_range(rt: HostRuntime) {
 #[test]
 fn segments_of_nine_bytes(rt: HostRuntime) {
     let value = b"123456789";
-    assert_eq!(rt; segment(value, 0), b"");
-    assert_eq!(rt; segment(value, 1), b"1234567");
-    assert_eq!(rt; segment(value, 2), b"89");
-    assert_eq!(rt; segment(value, 3), b"");
-    assert_eq!(rt; segment(value, usize::MAX), b"");
+    assert_eq!(rt; segment(value, 0), b"".as_slice());
+    assert_eq!(rt; segment(value, 1), b"1234567".as_slice());
+    assert_eq!(rt; segment(value, 2), b"89".as_slice());
+    assert_eq!(rt; segment(value, 3), b"".as_slice());
+    assert_eq!(rt; segment(value, usize::MAX), b"".as_slice());
 }
