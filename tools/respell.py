@@ -5,16 +5,16 @@ kit's port.py: facts and types in upper camel case, other names in snake case, a
     tools/respell.py [FOLDER]      changes the checkout at FOLDER, or here
 
 The renamings stand in respell.txt beside this file, an old name and a new one a line. They are applied to .antt files,
-to the clauses of .rt files (not to strings and comments there), and to the edits in must-fail/. Functions and other
-names of src/ have no dash, so none of them is touched. A new name that the checkout has already is told, since two
-names may fall together there.
+to the clauses of .rt files, and to the edits in must-fail/, but not to strings and comments. Functions and other names
+of src/ have no dash, so none of them is touched. A new name that the checkout has already is told, since two names may
+fall together there.
 """
 import pathlib
 import re
 import sys
 
 DASHED = re.compile(r"[A-Za-z][A-Za-z0-9_']*(?:-[A-Za-z0-9_']+)+")
-STRING_OR_COMMENT = re.compile(r'("(?:[^"\\]|\\.)*"|//.*$)', re.MULTILINE)
+STRING_OR_COMMENT = re.compile(r'("(?:[^"\\]|\\.)*"|(?://|-- ).*$)', re.MULTILINE)
 
 
 def renamings():
@@ -23,12 +23,8 @@ def renamings():
 
 
 def respelled(text, new):
-    return DASHED.sub(lambda m: new.get(m[0], m[0]), text)
-
-
-def respelled_code(text, new):
     parts = STRING_OR_COMMENT.split(text)
-    return "".join(part if k % 2 else respelled(part, new) for k, part in enumerate(parts))
+    return "".join(part if k % 2 else DASHED.sub(lambda m: new.get(m[0], m[0]), part) for k, part in enumerate(parts))
 
 
 def main():
@@ -42,7 +38,7 @@ def main():
         if old in there and name in there:
             print(f"{old} and {name} fall together")
     for p, text in texts.items():
-        changed = respelled_code(text, new) if p.suffix == ".rt" else respelled(text, new)
+        changed = respelled(text, new)
         if changed != text:
             p.write_text(changed, encoding="utf-8")
 

@@ -10,6 +10,7 @@ use load::load_all;
 use orders::{Order, read_orders};
 use std::env;
 use std::io::Read;
+use std::process::ExitCode;
 
 const HELP: &str = "Loads orders from standard input into the sample node (node number 5).
 
@@ -30,12 +31,12 @@ candump's log form, and whether the node accepted it; at the end the node's
 entries with their values, and how many orders were accepted and refused. Such
 a run ends with status 0.";
 
-fn main(rt: HostRuntime) -> anyhow::Result<()> {
+fn main(rt: HostRuntime) -> anyhow::Result<ExitCode> {
     match run(&rt) {
-        Ok(()) => Ok(()),
+        Ok(()) => Ok(ExitCode::SUCCESS),
         Err(error) => {
             eprintln!(rt; "loader: {error}")?;
-            Err(error)
+            Ok(ExitCode::FAILURE)
         }
     }
 }

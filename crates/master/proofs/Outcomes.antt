@@ -37,7 +37,7 @@ use Rattle.master.proofs.SubBlocks.{sub_block-length}
 pub by_phase : (P : State → Type 0) → ((s : State) → P (in_phase Idle s)) → ((w : Awaiting) (s : State) → P (in_phase (Open w) s)) → ((e : Ending) (s : State) → P (in_phase (Over e) s)) → (s : State) → P s
 by_phase P i o v s = elim s.phase as (λ p. P (in_phase p s)) [ Idle ↦ i s | Open w ↦ o w s | Over e ↦ v e s ]
 
--- what a write awaits; a sub_block_of has at most 127 segments
+-- what a write awaits; a sub-block has at most 127 segments
 abbrev pub Writes : Awaiting → Type 0
 Writes awaiting.ExpeditedDownload = Unit {0}
 Writes awaiting.InitiateDownload = Unit {0}
@@ -48,7 +48,7 @@ Writes awaiting.InitiateBlockDownload = Unit {0}
 Writes (awaiting.BlockDownload x) = x.count ≤ 127
 Writes awaiting.EndBlockDownload = Unit {0}
 
--- how many frames a write can still send: each segment once, up to 127 again for each sub_block_of that may fall short, an end and an abort
+-- how many frames a write can still send: each segment once, up to 127 again for each sub-block that may fall short, an end and an abort
 abbrev pub room : List ℕ → Awaiting → ℕ
 room v awaiting.ExpeditedDownload = 1
 room v awaiting.InitiateDownload = segments v + 2
@@ -84,7 +84,7 @@ module _ (s : State) where
   toggled_outcome : (w : Awaiting) (t u : Toggle) (o : Option Answer) (p : Step) → (t ≡ u → Outcome s w o p) → Outcome s w o (toggled s w t u p)
   toggled_outcome w t u o p h = cond_both (same_toggle t u) p (found s w ToggleNotAlternated) (λ q. Outcome s w o q) (λ e. h (equal_toggles t u e)) (λ _. ended ToggleNotAlternated)
 
-  -- what is left pays for the next sub_block_of, or for the end
+  -- what is left pays for the next sub-block, or for the end
   go_on_outcome : (w : Awaiting) (o : Option Answer) (c : CrcOffer) (n b short : ℕ) → 1 ≤ n → n ≤ 127 → (Writes w → segments s.value - b + (9 - short) * 127 + 2 ≤ room s.value w) → Outcome s w o (go_on s c n b short)
   go_on_outcome w o c n b short low high budget =
       let left = segments s.value - b in

@@ -108,7 +108,7 @@ send_segment s t k = send s (awaiting.DownloadSegment t k) k s.value (ask s (req
 abbrev pub ask_segment : State → Toggle → Option ℕ → List ℕ → Step
 ask_segment s t size v = send s (awaiting.UploadSegment t size) (min (s.highest + 1) 65535) v (ask s (request.UploadSegment t))
 
--- a sub_block_of of some segments behind the first b
+-- a sub-block of some segments behind the first b
 abbrev pub send_sub_block : State → CrcOffer → ℕ → ℕ → ℕ → Step
 send_sub_block s c b count short = send s (awaiting.BlockDownload (record { crc = c; acknowledged = b; count = count; short = short })) (max s.highest (b + count)) s.value (sub_block_of s.node s.value b count)
 
@@ -116,7 +116,7 @@ send_sub_block s c b count short = send s (awaiting.BlockDownload (record { crc 
 abbrev pub send_end : State → CrcOffer → Step
 send_end s c = send s awaiting.EndBlockDownload s.highest s.value (ask s (request.EndBlockDownload (unused s.value) (closing_crc c s.value)))
 
--- b segments are acknowledged: the next sub_block_of has at most n of the others, and after the last one the end is sent
+-- b segments are acknowledged: the next sub-block has at most n of the others, and after the last one the end is sent
 abbrev pub go_on : State → CrcOffer → ℕ → ℕ → ℕ → Step
 go_on s c n b short = cond (nat_le (segments s.value) b) (send_end s c) (send_sub_block s c b (min n (segments s.value - b)) short)
 
@@ -124,7 +124,7 @@ go_on s c n b short = cond (nat_le (segments s.value) b) (send_end s c) (send_su
 abbrev pub block_started : State → Awaiting → CrcOffer → ℕ → Step
 block_started s w c n = cond (is_block_size n) (go_on s c n 0 0) (found s w InvalidBlockSize)
 
--- a segments of a sub_block_of were kept: all of them, or fewer, which may happen eight times
+-- a segments of a sub-block were kept: all of them, or fewer, which may happen eight times
 abbrev pub kept : State → SubBlock → ℕ → ℕ → Step
 kept s x a n =
     cond (nat_lt x.count a) (found s (awaiting.BlockDownload x) InvalidSequenceNumber)
@@ -132,7 +132,7 @@ kept s x a n =
     (cond (nat_lt x.short 8) (go_on s x.crc n (x.acknowledged + a) (x.short + 1))
     (found s (awaiting.BlockDownload x) InvalidSequenceNumber)))
 
--- an acknowledgement: the block size for the next sub_block_of is judged first
+-- an acknowledgement: the block size for the next sub-block is judged first
 abbrev pub acknowledge : State → SubBlock → ℕ → ℕ → Step
 acknowledge s x a n = cond (is_block_size n) (kept s x a n) (found s (awaiting.BlockDownload x) InvalidBlockSize)
 
@@ -224,7 +224,7 @@ module _ (s : State) where
   hear_initiate_block (awaiting.BlockDownload x) m c n = unexpected s (awaiting.BlockDownload x)
   hear_initiate_block awaiting.EndBlockDownload m c n = unexpected s awaiting.EndBlockDownload
 
-  -- the acknowledgement of a sub_block_of
+  -- the acknowledgement of a sub-block
   abbrev pub hear_acknowledgement : Awaiting → ℕ → ℕ → Step
   hear_acknowledgement awaiting.ExpeditedDownload a n = unexpected s awaiting.ExpeditedDownload
   hear_acknowledgement awaiting.InitiateDownload a n = unexpected s awaiting.InitiateDownload

@@ -36,7 +36,7 @@ abbrev pub differs : Option ℕ → ℕ → Bool
 differs None n = false
 differs (Some size) n = not (size == n)
 
--- a number of segments that a sub_block_of can have
+-- a number of segments that a sub-block can have
 abbrev pub is_block_size : ℕ → Bool
 is_block_size n = nat_le 1 n && nat_le n 127
 

@@ -10,7 +10,7 @@ use Rattle.sdo.specs.declared.toggle.Toggle.{Toggle}
 use Rattle.sdo.specs.declared.crc_offer.CrcOffer.{CrcOffer}
 use Rattle.sdo.specs.declared.answer.Answer as declared
 
--- by the CiA 301 name of the protocol; an acknowledgement has the last segment kept and the size of the next sub_block_of, as the bytes stand in the frame
+-- by the CiA 301 name of the protocol; an acknowledgement has the last segment kept and the size of the next sub-block, as the bytes stand in the frame
 pub data Answer : Type 0 where
   InitiateDownload : Multiplexor → Answer
   DownloadSegment : Toggle → Answer

@@ -6,7 +6,7 @@ use Rattle.wire.specs.declared.abort_code.AbortCode.{AbortCode}
 use Rattle.sdo.specs.Fields.{b, bit7, set_bit, multiplexor_in, last_seven, abort_bytes, abort_code_in}
 use Rattle.sdo.specs.declared.block_request.BlockRequest as declared
 
--- a segment has whether it is the last, its number within the sub_block_of and seven bytes
+-- a segment has whether it is the last, its number within the sub-block and seven bytes
 pub data BlockRequest : Type 0 where
   Segment : Bool → ℕ → List ℕ → BlockRequest
   Abort : Multiplexor → AbortCode → BlockRequest

@@ -16,6 +16,6 @@ segment_data_of v = cond (nat_le (length v) 7) (Some v) None
 abbrev pub below : ℕ → ℕ → Option ℕ
 below limit n = cond (nat_lt n limit) (Some n) None
 
--- a sub_block_of has 1 to 127 segments
+-- a sub-block has 1 to 127 segments
 abbrev pub block_size_of : ℕ → Option ℕ
 block_size_of n = cond (nat_le 1 n && nat_le n 127) (Some n) None
