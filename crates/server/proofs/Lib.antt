@@ -1,0 +1,7 @@
+pub mod AnswerLaws
+pub mod CommitLaws
+pub mod Loading
+pub mod RunLaws
+pub mod Sorting
+pub mod TimeLaws
+pub mod Turning

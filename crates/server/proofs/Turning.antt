@@ -1,0 +1,90 @@
+-- Steps told in other words: by what a dictionary answered, and by what the buffer holds.
+use Rattle.std.proofs.Common.{◌≡◌, ℕ, ◌+◌, ◌<◌, ◌≤◌, Bool, true, false, cond, eqb, ltb, leb, List, length, take, drop, Some, None, Ok, Err, Option, sym, refl, ap, ◌∙◌, subst, arith, take_all, lt-ltb, eq-eqb}
+use Rattle.std.proofs.lemmas.Bool.{le-ltb, le-leb, lt-leb}
+use Rattle.wire.specs.declared.multiplexor.Multiplexor.{Multiplexor}
+use Rattle.wire.specs.declared.abort_code.AbortCode.{AbortCode}
+use Rattle.wire.specs.declared.abort_code.AbortCode.TheVariants.{LengthTooHigh}
+use Rattle.wire.specs.declared.frame.Frame.{Frame}
+use Rattle.sdo.specs.declared.toggle.Toggle.{Toggle}
+use Rattle.sdo.specs.Answers as answer
+use Rattle.sdo.specs.Requests.{request_in}
+use Rattle.sdo.specs.Ranges.{fits_expedited, expedited_of}
+use Rattle.sdo.specs.Segments.{other}
+use Rattle.sdo.specs.Transfers as coming
+use Rattle.dictionary.specs.Entries.{Entry}
+use Rattle.dictionary.specs.Commits.{decided}
+use Rattle.server.specs.declared.block_start.BlockStart.{BlockStart}
+use Rattle.server.specs.declared.reaction.Reaction.{Reaction}
+use Rattle.server.specs.declared.transfer.Transfer as declared
+use Rattle.server.specs.States.{State, Idle, Download, Upload}
+use Rattle.server.specs.Steps.{Step, Setting, refused, answered, dropped, announced, given, completed, received, next_segment, understood, heard, taken, step}
+use Rattle.server.specs.Nodes.{Turns, Does, Serves, dictionary_by, shown_transfer}
+
+left : (o : Option Setting) (d : List Entry) → o ≡ None → d ≡ dictionary_by o d
+left None d e = refl
+left (Some v) d e = let z : ◌≡◌ {A = ℕ} 0 1 = cc in absurd (omega arith)
+
+module _ {s t : State} {r : Reaction} where
+  -- a step that sets nothing leaves the dictionary
+  pub leaving : (p : Step) (d : List Entry) → Turns p s t r → Does p s t d d r
+  leaving p d h = record { answer = h.answer; node = h.node; dictionary = left p.set d h.unset }
+
+  -- the same step in other words
+  pub turning : {p q : Step} → p ≡ q → Turns p s t r → Turns q s t r
+  turning e h = subst (λ (x : Step). Turns x s t r) e h
+
+  pub doing : {p q : Step} {d f : List Entry} → p ≡ q → Does p s t d f r → Does q s t d f r
+  doing {d = d} {f = f} e h = subst (λ (x : Step). Does x s t d f r) e h
+
+-- what a decision tells of the verdict
+pub refused_by : (w : Option AbortCode) (c : AbortCode) → Err c ≡ decided w → w ≡ Some c
+refused_by None c e = let z : ◌≡◌ {A = ℕ} 0 1 = cc in absurd (omega arith)
+refused_by (Some x) c e = cc
+
+pub allowed_by : (w : Option AbortCode) → Ok tt ≡ decided w → w ≡ None
+allowed_by None e = refl
+allowed_by (Some x) e = let z : ◌≡◌ {A = ℕ} 0 1 = cc in absurd (omega arith)
+
+-- a value that does not fit the answer is given by segments
+by_segments : (b : Bool) (m : Multiplexor) (v : List ℕ) → None ≡ cond b (Some v) None → announced m v ≡ cond b (answered Idle (answer.InitiateUpload m (coming.Expedited v))) (announced m v)
+by_segments true m v e = let z : ◌≡◌ {A = ℕ} 0 1 = cc in absurd (omega arith)
+by_segments false m v e = refl
+
+pub segments-given : (m : Multiplexor) (v : List ℕ) → None ≡ expedited_of v → announced m v ≡ given m v
+segments-given m v e = by_segments (fits_expedited v) m v e
+
+-- the last segment of a read, and one before it
+module _ (m : Multiplexor) (t : Toggle) (v : List ℕ) where
+  pub last_given : length v ≤ 7 → answered Idle (answer.UploadSegment t (take 7 v) true) ≡ next_segment m t v
+  last_given h = rw (le-leb (length v) 7 h, take_all 7 v h)
+
+  pub more_given : 7 < length v → answered (Upload m (other t) (drop 7 v)) (answer.UploadSegment t (take 7 v) false) ≡ next_segment m t v
+  more_given h = rw (lt-leb (length v) 7 h)
+
+-- a segment of a write: too long, the last one, or one before it
+module _ (d : List Entry) (m : Multiplexor) (size : Option ℕ) (t : Toggle) (last : Bool) (v : List ℕ) where
+  pub received_long : 1024 < length v → refused m LengthTooHigh ≡ received d m size t last v
+  received_long h = rw (lt-ltb 1024 (length v) h)
+
+  pub received-last : length v ≤ 1024 → last ≡ true → completed d m size v (answer.DownloadSegment t) ≡ received d m size t last v
+  received-last h e = rw (le-ltb 1024 (length v) h, e)
+
+  pub received_more : length v ≤ 1024 → last ≡ false → answered (Download m size (other t) v) (answer.DownloadSegment t) ≡ received d m size t last v
+  received_more h e = rw (le-ltb 1024 (length v) h, e)
+
+-- a frame with the node's identifier
+pub addressed : (d : List Entry) (s : State) (f : Frame) → f.identifier.number ≡ 0x600 + s.number.number → heard d s.block_size.number s.transfer f.bytes ≡ taken d s f
+addressed d s f own = rw (eq-eqb f.identifier.number (0x600 + s.number.number) own)
+
+-- a frame that waited
+pub serving : {s t : State} {d e : List Entry} {r : Reaction} (o : Option Frame) (f : Frame) → o ≡ Some f → Does (taken d s f) s t d e r → Serves o s t d e r
+unfolding step
+serving {s} {t} {d} {e} {r} o f is h = subst (λ (x : Option Frame). Serves x s t d e r) (sym is) (record { answer = h.answer; node = h.node; dictionary = h.dictionary })
+
+-- bytes that are taken while no block segments come in
+pub elsewhere : (d : List Entry) (n : ℕ) (t : declared.Transfer) (v bytes : List ℕ) → ((b : BlockStart) (k : ℕ) (over : Bool) → t ≡ declared.TheVariants.BlockDownload b k over → ⊥) → understood d n (shown_transfer t v) (request_in bytes) ≡ heard d n (shown_transfer t v) bytes
+elsewhere d n declared.TheVariants.Idle v bytes h = refl
+elsewhere d n (declared.TheVariants.Download m size u) v bytes h = refl
+elsewhere d n (declared.TheVariants.Upload m u k) v bytes h = refl
+elsewhere d n (declared.TheVariants.BlockDownload b k over) v bytes h = absurd (h b k over refl)
+elsewhere d n (declared.TheVariants.BlockEnd b) v bytes h = refl

@@ -1,0 +1,108 @@
+-- What serving a frame and a tick make of a node and its dictionary, and how a node of the code stands for a state.
+use Rattle.std.specs.Prelude.{◌≡◌, ℕ, ◌+◌, ◌%◌, cond, List, drop, Some, None, Option, nat_le}
+use Rattle.std.specs.Option.{option_map}
+use Rattle.wire.specs.declared.frame.Frame.{Frame}
+use Rattle.wire.specs.declared.multiplexor.Multiplexor.{Multiplexor}
+use Rattle.wire.specs.declared.node_number.NodeNumber.{NodeNumber}
+use Rattle.wire.specs.declared.abort_code.AbortCode.TheVariants.{TimedOut}
+use Rattle.sdo.specs.declared.block_size.BlockSize.{BlockSize}
+use Rattle.sdo.specs.Answers.{Answer}
+use Rattle.sdo.specs.Answers as answer
+use Rattle.sdo.specs.Frames.{answer_frame}
+use Rattle.dictionary.specs.Entries.{Entry, put}
+use Rattle.server.specs.declared.node.Node.{Node}
+use Rattle.server.specs.declared.reaction.Reaction.{Reaction}
+use Rattle.server.specs.declared.transfer.Transfer as declared
+use Rattle.server.specs.Buffers.{held}
+use Rattle.server.specs.States.{State, Transfer, Idle, Download, Upload, BlockDownload, BlockEnd, is_idle, named}
+use Rattle.server.specs.Steps.{Step, Setting, step}
+
+-- a node that has served nothing yet
+abbrev pub fresh : NodeNumber → BlockSize → State
+fresh n b = record { number = n; block_size = b; transfer = Idle; ticks = 0; commits = 0 }
+
+-- only a value that is set changes the dictionary, and just then the count of 16 bits grows by one, wrapping
+abbrev pub dictionary_by : Option Setting → List Entry → List Entry
+dictionary_by None d = d
+dictionary_by (Some v) d = put v.multiplexor v.value d
+
+abbrev pub commits_by : Option Setting → ℕ → ℕ
+commits_by None n = n
+commits_by (Some v) n = (n + 1) % 65536
+
+-- the node after a frame: any frame that is taken restarts its time
+abbrev pub stepped : Step → State → State
+stepped p s = record { number = s.number; block_size = s.block_size; transfer = p.next; ticks = 0; commits = commits_by p.set s.commits }
+
+abbrev pub state_after : Option Frame → Step → State → State
+state_after None p s = s
+state_after (Some f) p s = stepped p s
+
+-- what serve answers
+abbrev pub reaction : NodeNumber → Step → Reaction
+reaction n p = record { served = p.served; reply = option_map (answer_frame n) p.reply }
+
+-- a step that sets nothing: the answer and the node afterwards
+pub record Turns (p : Step) (s t : State) (r : Reaction) : Type 0 where
+  pub answer : r ≡ reaction s.number p
+  pub node : t ≡ stepped p s
+  pub unset : p.set ≡ None
+
+-- a step: the answer, the node and the dictionary afterwards
+pub record Does (p : Step) (s t : State) (d e : List Entry) (r : Reaction) : Type 0 where
+  pub answer : r ≡ reaction s.number p
+  pub node : t ≡ stepped p s
+  pub dictionary : e ≡ dictionary_by p.set d
+
+-- serving a frame, or none: the answer, the node and the dictionary afterwards
+pub record Serves (taken : Option Frame) (s t : State) (d e : List Entry) (r : Reaction) : Type 0 where
+  pub answer : r ≡ reaction s.number (step d s taken)
+  pub node : t ≡ state_after taken (step d s taken) s
+  pub dictionary : e ≡ dictionary_by (step d s taken).set d
+
+-- what comes of a tick: the node afterwards, and its own message
+pub record Tick : Type 0 where
+  pub next : State
+  pub reply : Option Answer
+
+abbrev pub timed_out : State → Tick
+timed_out s = record {
+  next = record { number = s.number; block_size = s.block_size; transfer = Idle; ticks = 0; commits = s.commits };
+  reply = Some (answer.Abort (named s.transfer) TimedOut);
+}
+
+abbrev pub waited : State → Tick
+waited s = record {
+  next = record { number = s.number; block_size = s.block_size; transfer = s.transfer; ticks = s.ticks + 1; commits = s.commits };
+  reply = None;
+}
+
+-- the 25th tick since a frame was taken ends a transfer
+unfoldable pub tick : State → Tick
+tick s =
+    cond (is_idle s.transfer) (record { next = s; reply = None })
+    (cond (nat_le 25 (s.ticks + 1)) (timed_out s)
+    (waited s))
+
+-- a tick: the frame sent and the node afterwards
+pub record Ticks (s t : State) (r : Option Frame) : Type 0 where
+  pub answer : r ≡ option_map (answer_frame s.number) (tick s).reply
+  pub node : t ≡ (tick s).next
+
+-- the transfer of a node of the code, whose bytes are in its buffer
+abbrev pub shown_transfer : declared.Transfer → List ℕ → Transfer
+shown_transfer declared.TheVariants.Idle v = Idle
+shown_transfer (declared.TheVariants.Download m size u) v = Download m size u v
+shown_transfer (declared.TheVariants.Upload m u given) v = Upload m u (drop given v)
+shown_transfer (declared.TheVariants.BlockDownload b s over) v = BlockDownload b s over v
+shown_transfer (declared.TheVariants.BlockEnd b) v = BlockEnd b v
+
+-- the state that a node of the code stands for
+abbrev pub shown : Node → State
+shown n = record {
+  number = n.number;
+  block_size = n.block_size;
+  transfer = shown_transfer n.transfer (held n.buffer);
+  ticks = n.ticks;
+  commits = n.commits;
+}

@@ -1,0 +1,114 @@
+//! Reads: at once or in segments (CiA 301, 7.2.4.3.6 and 7.2.4.3.7: SDO upload initiate and segment).
+ghost use Rattle.std.specs.Prelude.{drop};
+ghost use Rattle.server.specs.Buffers.{held};
+ghost use Rattle.server.specs.Nodes.{Turns, shown};
+ghost use Rattle.server.specs.Steps.{announced, given as given-step, start_upload, next_segment, upload_segment};
+
+use super::Node;
+use crate::reaction::Reaction;
+use crate::served::Served;
+use crate::transfer::Transfer;
+use dictionary::Readable;
+use sdo::{Answer, ExpeditedData, SegmentData, Toggle};
+use wire::{AbortCode, Multiplexor};
+
+impl Node {
+    /// The start of a read: the value is given, unless the dictionary has a verdict on the read.
+    pub(super) fn start_upload<D: Readable>(
+        &mut self,
+        dictionary: &D,
+        multiplexor: Multiplexor,
+    ) -> Reaction
+        ensures { Turns (start_upload (D.Readable.meaning dictionary.now) multiplexor) (shown self.old) (shown self.new) result }
+    {
+        match self.buffer.load(dictionary, multiplexor) {
+            Ok(()) => self.give(multiplexor),
+            Err(code) => self.refuse(multiplexor, code),
+        }
+    }
+
+    /// The value in the buffer is given: up to four bytes in the answer, a longer one by segments.
+    fn give(&mut self, multiplexor: Multiplexor) -> Reaction
+        ensures { Turns (given-step multiplexor (held self.old.buffer)) (shown self.old) (shown self.new) result }
+    {
+        match ExpeditedData::new(self.buffer.held()) {
+            Some(data) => self.send(
+                Transfer::Idle,
+                Served::Answered,
+                Answer::InitiateUpload {
+                    multiplexor,
+                    transfer: sdo::Transfer::Expedited { data },
+                },
+            ),
+            None => self.give_segments(multiplexor),
+        }
+    }
+
+    /// The value in the buffer is announced, to be given by segments.
+    fn give_segments(&mut self, multiplexor: Multiplexor) -> Reaction
+        ensures { Turns (announced multiplexor (held self.old.buffer)) (shown self.old) (shown self.new) result }
+    {
+        let size = Some(self.buffer.len() as u32);
+        self.send(
+            Transfer::Upload {
+                multiplexor,
+                toggle: Toggle::Zero,
+                given: 0,
+            },
+            Served::Answered,
+            Answer::InitiateUpload {
+                multiplexor,
+                transfer: sdo::Transfer::Segmented { size },
+            },
+        )
+    }
+
+    /// A segment of a read is asked for: its toggle is judged, then the segment is given.
+    pub(super) fn upload_segment(&mut self, toggle: Toggle) -> Reaction
+        ensures { Turns (upload_segment (shown self.old).transfer toggle) (shown self.old) (shown self.new) result }
+    {
+        let Transfer::Upload {
+            multiplexor,
+            toggle: expected,
+            given,
+        } = self.transfer
+        else {
+            return self.unexpected();
+        };
+        if toggle != expected {
+            return self.refuse(multiplexor, AbortCode::ToggleNotAlternated);
+        }
+        self.next_segment(multiplexor, toggle, given)
+    }
+
+    /// The next seven bytes of the value in the buffer, or the last ones, after which the node is idle.
+    fn next_segment(&mut self, multiplexor: Multiplexor, toggle: Toggle, given: usize) -> Reaction
+        ensures { Turns (next_segment multiplexor toggle (drop given (held self.old.buffer))) (shown self.old) (shown self.new) result }
+    {
+        let rest = self.buffer.rest(given);
+        let left = rest.len();
+        let data = SegmentData::front(rest);
+        if left <= 7 {
+            return self.send(
+                Transfer::Idle,
+                Served::Answered,
+                Answer::UploadSegment {
+                    toggle,
+                    data,
+                    last: true,
+                },
+            );
+        }
+        let next = Transfer::Upload {
+            multiplexor,
+            toggle: toggle.other(),
+            given: given + 7,
+        };
+        let segment = Answer::UploadSegment {
+            toggle,
+            data,
+            last: false,
+        };
+        self.send(next, Served::Answered, segment)
+    }
+}

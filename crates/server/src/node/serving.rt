@@ -1,0 +1,106 @@
+//! What a node does with a frame (CiA 301, 7.2.4.3: the server's side of all SDO protocols).
+ghost use Rattle.std.specs.Option.{option_map};
+ghost use Rattle.sdo.specs.Requests.{shown_request};
+ghost use Rattle.server.specs.Nodes.{Turns, Does, Serves, shown};
+ghost use Rattle.server.specs.Steps.{aborted as aborted-step, asked as asked-step, understood as understood-step, heard, taken as Taken-step};
+
+use super::Node;
+use crate::block_start::BlockStart;
+use crate::reaction::Reaction;
+use crate::served::Served;
+use crate::transfer::Transfer;
+use dictionary::Writable;
+use sdo::{BlockRequest, Request};
+use wire::{Frame, Identifier};
+
+impl Node {
+    /// Serves a frame that was taken from the line, or none where none waited, over the node's dictionary.
+    pub fn serve<D: Writable>(&mut self, dictionary: &mut D, taken: Option<Frame>) -> Reaction
+        ensures { Serves taken (shown self.old) (shown self.new) (D.Readable.meaning dictionary.old) (D.Readable.meaning dictionary.new) result }
+    {
+        match taken {
+            Some(frame) => self.take(dictionary, frame),
+            None => Reaction {
+                served: Served::NothingWaited,
+                reply: None,
+            },
+        }
+    }
+
+    /// Takes a frame: one with another identifier than the node's is dropped.
+    fn take<D: Writable>(&mut self, dictionary: &mut D, frame: Frame) -> Reaction
+        ensures { Does (Taken-step (D.Readable.meaning dictionary.old) (shown self.old) frame) (shown self.old) (shown self.new) (D.Readable.meaning dictionary.old) (D.Readable.meaning dictionary.new) result }
+    {
+        if frame.identifier.number() != Identifier::of_requests(self.number).number() {
+            return self.ignore();
+        }
+        self.hear(dictionary, frame.bytes)
+    }
+
+    /// Reads a frame's bytes: one way while block segments come in, another elsewhere.
+    fn hear<D: Writable>(&mut self, dictionary: &mut D, bytes: [u8; 8]) -> Reaction
+        ensures { Does (heard (D.Readable.meaning dictionary.old) (shown self.old).block_size.number (shown self.old).transfer bytes) (shown self.old) (shown self.new) (D.Readable.meaning dictionary.old) (D.Readable.meaning dictionary.new) result }
+    {
+        if let Transfer::BlockDownload {
+            start,
+            expected,
+            spoiled,
+        } = self.transfer
+        {
+            return self.asked_in_block(start, expected, spoiled, BlockRequest::from_bytes(bytes));
+        }
+        self.understood(dictionary, Request::from_bytes(bytes))
+    }
+
+    /// A request in any state but while block segments come in, or none that is known.
+    fn understood<D: Writable>(&mut self, dictionary: &mut D, request: Option<Request>) -> Reaction
+        ensures { Does (understood-step (D.Readable.meaning dictionary.old) (shown self.old).block_size.number (shown self.old).transfer (option_map shown_request request)) (shown self.old) (shown self.new) (D.Readable.meaning dictionary.old) (D.Readable.meaning dictionary.new) result }
+    {
+        match request {
+            Some(request) => self.asked(dictionary, request),
+            None => self.unexpected(),
+        }
+    }
+
+    /// A request in any state but while block segments come in: a start replaces a transfer.
+    fn asked<D: Writable>(&mut self, dictionary: &mut D, request: Request) -> Reaction
+        ensures { Does (asked-step (D.Readable.meaning dictionary.old) (shown self.old).block_size.number (shown self.old).transfer (shown_request request)) (shown self.old) (shown self.new) (D.Readable.meaning dictionary.old) (D.Readable.meaning dictionary.new) result }
+    {
+        match request {
+            Request::InitiateDownload {
+                multiplexor,
+                transfer,
+            } => self.start_download(dictionary, multiplexor, transfer),
+            Request::DownloadSegment { toggle, data, last } => self.download_segment(
+                dictionary, toggle, data, last,
+            ),
+            Request::InitiateUpload { multiplexor } => self.start_upload(dictionary, multiplexor),
+            Request::UploadSegment { toggle } => self.upload_segment(toggle),
+            Request::InitiateBlockDownload {
+                multiplexor,
+                crc,
+                size,
+            } => self.start_block(
+                dictionary,
+                BlockStart {
+                    multiplexor,
+                    size,
+                    crc,
+                },
+            ),
+            Request::EndBlockDownload { unused, crc } => self.block_end(dictionary, unused, crc),
+            Request::Abort { .. } => self.aborted(),
+        }
+    }
+
+    /// An abort ends a transfer; without one it is dropped.
+    fn aborted(&mut self) -> Reaction
+        ensures { Turns (aborted-step (shown self.old).transfer) (shown self.old) (shown self.new) result }
+    {
+        if self.is_idle() {
+            self.ignore()
+        } else {
+            self.end()
+        }
+    }
+}

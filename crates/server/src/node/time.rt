@@ -1,0 +1,44 @@
+//! Time at a node.
+ghost use Rattle.std.specs.Prelude.{◌≡◌};
+ghost use Rattle.wire.specs.declared.abort_code.AbortCode.TheVariants.{TimedOut};
+ghost use Rattle.sdo.specs.Answers.{Abort};
+ghost use Rattle.sdo.specs.Frames.{answer_frame};
+ghost use Rattle.server.specs.Nodes.{Ticks, shown, timed_out};
+ghost use Rattle.server.specs.States.{named as Named-by};
+
+use super::Node;
+use crate::transfer::Transfer;
+use sdo::Answer;
+use wire::{AbortCode, Frame};
+
+/// In which tick after the last frame that it took a busy node ends its transfer.
+const PATIENCE: u8 = 25;
+
+impl Node {
+    /// Lets a tick pass: the abort with which a node ends its transfer that took no frame for 25 ticks.
+    pub fn tick(&mut self) -> Option<Frame>
+        ensures { Ticks (shown self.old) (shown self.new) result }
+    {
+        if self.is_idle() {
+            return None;
+        }
+        if self.ticks < PATIENCE - 1 {
+            self.ticks += 1;
+            return None;
+        }
+        Some(self.time_out())
+    }
+
+    /// Ends the transfer by an abort.
+    fn time_out(&mut self) -> Frame
+        ensures { (result ≡ answer_frame self.old.number (Abort (Named-by (shown self.old).transfer) TimedOut)) × (shown self.new ≡ (timed_out (shown self.old)).next) }
+    {
+        let abort = Answer::Abort {
+            multiplexor: self.named(),
+            code: AbortCode::TimedOut,
+        };
+        self.transfer = Transfer::Idle;
+        self.ticks = 0;
+        abort.to_frame(self.number)
+    }
+}

@@ -1,0 +1,147 @@
+//! Writes: at once or in segments (CiA 301, 7.2.4.3.3 and 7.2.4.3.4: SDO download initiate and segment).
+ghost use Rattle.std.specs.Prelude.{◌≡◌, ◌++◌};
+ghost use Rattle.sdo.specs.Answers.{shown_answer};
+ghost use Rattle.sdo.specs.Segments.{data_value};
+ghost use Rattle.sdo.specs.Transfers.{Segmented, shown_transfer as shown-coming};
+ghost use Rattle.server.specs.Buffers.{held};
+ghost use Rattle.server.specs.Nodes.{Turns, Does, shown};
+ghost use Rattle.server.specs.Steps.{start_download, differs as differs-from, completed, received, download_segment};
+
+use super::Node;
+use crate::reaction::Reaction;
+use crate::served::Served;
+use crate::transfer::Transfer;
+use dictionary::{Readable, Writable, start_verdict};
+use sdo::{Answer, SegmentData, Toggle};
+use wire::{AbortCode, Multiplexor};
+
+/// How many bytes a value has at most.
+const LONGEST: usize = 1024;
+
+impl Node {
+    /// The start of a write: a value that comes at once is committed, for a longer one its segments are awaited.
+    pub(super) fn start_download<D: Writable>(
+        &mut self,
+        dictionary: &mut D,
+        multiplexor: Multiplexor,
+        transfer: sdo::Transfer,
+    ) -> Reaction
+        ensures { Does (start_download (D.Readable.meaning dictionary.old) multiplexor (shown-coming transfer)) (shown self.old) (shown self.new) (D.Readable.meaning dictionary.old) (D.Readable.meaning dictionary.new) result }
+    {
+        match transfer {
+            sdo::Transfer::Expedited { data } => {
+                self.buffer.hold(data.value());
+                self.commit(
+                    dictionary,
+                    multiplexor,
+                    Answer::InitiateDownload { multiplexor },
+                )
+            }
+            sdo::Transfer::Segmented { size } => self.start_segments(dictionary, multiplexor, size),
+        }
+    }
+
+    /// The start of a write in segments: they are awaited, unless the dictionary has a verdict on the write already.
+    fn start_segments<D: Readable>(
+        &mut self,
+        dictionary: &D,
+        multiplexor: Multiplexor,
+        size: Option<u32>,
+    ) -> Reaction
+        ensures { Turns (start_download (D.Readable.meaning dictionary.now) multiplexor (Segmented size)) (shown self.old) (shown self.new) result }
+    {
+        match start_verdict(dictionary, multiplexor, size) {
+            Some(code) => self.refuse(multiplexor, code),
+            None => {
+                self.buffer.clear();
+                self.send(
+                    Transfer::Download {
+                        multiplexor,
+                        size,
+                        toggle: Toggle::Zero,
+                    },
+                    Served::Answered,
+                    Answer::InitiateDownload { multiplexor },
+                )
+            }
+        }
+    }
+
+    /// A segment of a write: its toggle is judged, then its data is taken.
+    pub(super) fn download_segment<D: Writable>(
+        &mut self,
+        dictionary: &mut D,
+        toggle: Toggle,
+        data: SegmentData,
+        last: bool,
+    ) -> Reaction
+        ensures { Does (download_segment (D.Readable.meaning dictionary.old) (shown self.old).transfer toggle (data_value «data») last) (shown self.old) (shown self.new) (D.Readable.meaning dictionary.old) (D.Readable.meaning dictionary.new) result }
+    {
+        let Transfer::Download {
+            multiplexor,
+            size,
+            toggle: expected,
+        } = self.transfer
+        else {
+            return self.unexpected();
+        };
+        if toggle != expected {
+            return self.refuse(multiplexor, AbortCode::ToggleNotAlternated);
+        }
+        self.receive(dictionary, multiplexor, size, toggle, data, last)
+    }
+
+    /// The data of a segment: it is kept behind what is there, and behind the last segment the value is complete.
+    fn receive<D: Writable>(
+        &mut self,
+        dictionary: &mut D,
+        multiplexor: Multiplexor,
+        size: Option<u32>,
+        toggle: Toggle,
+        data: SegmentData,
+        last: bool,
+    ) -> Reaction
+        ensures { Does (received (D.Readable.meaning dictionary.old) multiplexor size toggle last (held self.old.buffer ++ data_value «data»)) (shown self.old) (shown self.new) (D.Readable.meaning dictionary.old) (D.Readable.meaning dictionary.new) result }
+    {
+        if self.buffer.len() + data.value().len() > LONGEST {
+            return self.refuse(multiplexor, AbortCode::LengthTooHigh);
+        }
+        self.buffer.append(data.value());
+        let answer = Answer::DownloadSegment { toggle };
+        if last {
+            return self.complete(dictionary, multiplexor, size, answer);
+        }
+        let next = Transfer::Download {
+            multiplexor,
+            size,
+            toggle: toggle.other(),
+        };
+        self.send(next, Served::Answered, answer)
+    }
+
+    /// All bytes of a write are in the buffer: their number is compared with an announced size, then they are committed.
+    pub(super) fn complete<D: Writable>(
+        &mut self,
+        dictionary: &mut D,
+        multiplexor: Multiplexor,
+        size: Option<u32>,
+        answer: Answer,
+    ) -> Reaction
+        ensures { Does (completed (D.Readable.meaning dictionary.old) multiplexor size (held self.old.buffer) (shown_answer answer)) (shown self.old) (shown self.new) (D.Readable.meaning dictionary.old) (D.Readable.meaning dictionary.new) result }
+    {
+        if differs(size, self.buffer.len()) {
+            return self.refuse(multiplexor, AbortCode::LengthMismatch);
+        }
+        self.commit(dictionary, multiplexor, answer)
+    }
+}
+
+/// Whether an announced size differs from a number of bytes.
+fn differs(size: Option<u32>, len: usize) -> bool
+    ensures { result ≡ differs-from size len }
+{
+    match size {
+        Some(size) => size as usize != len,
+        None => false,
+    }
+}

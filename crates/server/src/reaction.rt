@@ -1,0 +1,10 @@
+//! What serving a frame brought about.
+use crate::served::Served;
+use wire::Frame;
+
+/// What became of the frame, and the node's own frame where it sends one.
+#[derive(Clone, Copy, PartialEq)]
+pub struct Reaction {
+    pub served: Served,
+    pub reply: Option<Frame>,
+}
