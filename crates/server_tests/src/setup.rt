@@ -1,0 +1,78 @@
+//! A node over the sample, and what it makes of frames.
+use dictionary::{Table, sample};
+use sdo::BlockSize;
+use server::{Node, Reaction, Served};
+use std::process::Abort;
+use std::test::Fail;
+use wire::{Frame, Identifier, NodeNumber};
+
+/// A frame to the node, what serving it tells, and the bytes of the answer.
+#[derive(Clone, Copy)]
+pub(crate) struct Turn(pub [u8; 8], pub Served, pub Option<[u8; 8]>);
+
+/// The node and its dictionary.
+#[derive(Drop)]
+pub(crate) struct Setup {
+    pub node: Node,
+    pub table: Table,
+}
+
+impl Setup {
+    /// A new node with a block size over the sample.
+    pub(crate) fn new(block_size: u8) -> Setup {
+        Setup {
+            node: Node::new(NodeNumber::nearest(5), BlockSize::nearest(block_size)),
+            table: sample(),
+        }
+    }
+
+    /// What the node makes of a frame with an identifier.
+    pub(crate) fn serve(&mut self, identifier: u16, bytes: [u8; 8]) -> Result<Reaction, Fail> {
+        let Some(identifier) = Identifier::new(identifier) else {
+            return Err(Fail::new("more than 11 bits"));
+        };
+        Ok(
+            self.node
+                .serve(&mut self.table, Some(Frame { identifier, bytes })),
+        )
+    }
+
+    /// Checks one turn.
+    pub(crate) fn check(&mut self, rt: &impl Abort, turn: Turn) -> Result<(), Fail> {
+        let reaction = self.serve(0x605, turn.0)?;
+        assert!(rt; reaction.served == turn.1);
+        check_reply(rt, reaction.reply, turn.2)
+    }
+
+    /// Checks some turns, one after the other.
+    pub(crate) fn check_all(&mut self, rt: &impl Abort, turns: &[Turn]) -> Result<(), Fail> {
+        for turn in turns {
+            self.check(rt, *turn)?;
+        }
+        Ok(())
+    }
+}
+
+/// Checks that a frame is the node's and has some bytes, or that there is none.
+pub(crate) fn check_reply(
+    rt: &impl Abort,
+    reply: Option<Frame>,
+    bytes: Option<[u8; 8]>,
+) -> Result<(), Fail> {
+    match reply {
+        Some(frame) => {
+            assert_eq!(rt; frame.identifier.number(), 0x585);
+            assert_eq!(rt; Some(frame.bytes), bytes);
+            Ok(())
+        }
+        None => {
+            assert!(rt; bytes.is_none());
+            Ok(())
+        },
+    }
+}
+
+/// Checks some turns at a new node with sub-blocks of 127 segments.
+pub(crate) fn check_run(rt: &impl Abort, turns: &[Turn]) -> Result<(), Fail> {
+    Setup::new(127).check_all(rt, turns)
+}
