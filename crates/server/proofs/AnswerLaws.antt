@@ -12,8 +12,8 @@ use Rattle.dictionary.specs.Entries.{Entry}
 use Rattle.server.specs.declared.block_start.BlockStart.{BlockStart}
 use Rattle.server.specs.Buffers.{full}
 use Rattle.server.specs.States.{State, Transfer, Idle, Download, Upload, BlockDownload, BlockEnd, is_idle, named}
-use Rattle.server.specs.Steps.{Step, ended, dropped, refused, ends, spoil, block_segment, asked, understood, asked_in_block, heard, taken, step}
-use Rattle.server.specs.Laws.{IsFor, Asks, ForeignDropped, in_block, is_start, is_abort, awaits, idled, StartsReplace, AbortsHeard, OthersRefused, UnknownRefused, BlockAborted, begun_by, Stays, BlockStays}
+use Rattle.server.specs.Steps.{Step, ended, dropped, refused, ends, spoil, block_segment, asked, understood, asked_in_block, heard, step}
+use Rattle.server.specs.Laws.{Asks, ForeignDropped, in_block, is_start, is_abort, awaits, idled, StartsReplace, AbortsHeard, OthersRefused, UnknownRefused, BlockAborted, begun_by, Stays, BlockStays}
 use Rattle.server.proofs.Turning.{addressed}
 
 pub foreign_dropped : ForeignDropped

@@ -1,15 +1,15 @@
 -- Only a commit changes the dictionary.
-use Rattle.std.proofs.Common.{◌≡◌, ℕ, ◌+◌, ◌%◌, Bool, true, false, cond, leb, List, Some, None, Option, sym, refl, ap, ◌∙◌, arith}
+use Rattle.std.proofs.Common.{◌≡◌, ℕ, ◌+◌, Bool, true, false, cond, leb, List, Some, None, Option, sym, refl, ap, ◌∙◌, arith}
 use Rattle.wire.specs.declared.multiplexor.Multiplexor.{Multiplexor}
 use Rattle.wire.specs.declared.abort_code.AbortCode.{AbortCode}
 use Rattle.wire.specs.declared.frame.Frame.{Frame}
 use Rattle.sdo.specs.Answers as answer
-use Rattle.dictionary.specs.Entries.{Entry, put}
+use Rattle.dictionary.specs.Entries.{Entry}
 use Rattle.dictionary.specs.Verdicts.{write_verdict}
 use Rattle.server.specs.declared.served.Served.TheVariants.{Committed}
 use Rattle.server.specs.States.{State, Idle, is_idle}
 use Rattle.server.specs.Steps.{Step, Setting, step}
-use Rattle.server.specs.Nodes.{Tick, dictionary_by, commits_by, state_after, timed_out, waited, tick}
+use Rattle.server.specs.Nodes.{dictionary_by, commits_by, timed_out, waited, tick}
 use Rattle.server.specs.Laws.{Commits, CommitsTold, Leaves, OthersLeave, TicksLeave, AbortsLeaveIdle}
 use Rattle.server.proofs.Sorting.{Kind, says_abort, commits, refuses, hears, answers, drops, keeps, waits, step-kind}
 

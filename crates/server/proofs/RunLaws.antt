@@ -1,5 +1,5 @@
 -- In every run the notes agree with the node.
-use Rattle.std.proofs.Common.{◌≡◌, ℕ, ◌+◌, ◌-◌, ◌≤◌, Bool, true, false, cond, eqb, ltb, leb, List, [], ◌∷◌, ◌++◌, length, take, drop, Some, None, Option, sym, refl, ap, ◌∙◌, subst, arith, eq-eqb, ne_eqb, eqb-true}
+use Rattle.std.proofs.Common.{◌≡◌, ℕ, ◌+◌, ◌-◌, ◌≤◌, Bool, true, false, cond, eqb, ltb, leb, List, [], ◌∷◌, ◌++◌, length, take, Some, None, Option, sym, refl, ap, ◌∙◌, subst, arith, eq-eqb, ne_eqb, eqb-true}
 use Rattle.wire.specs.declared.abort_code.AbortCode.{AbortCode}
 use Rattle.wire.specs.declared.abort_code.AbortCode.TheVariants.{UnknownCommand}
 use Rattle.wire.specs.declared.multiplexor.Multiplexor.{Multiplexor}
@@ -23,8 +23,8 @@ use Rattle.server.specs.declared.served.Served.{Served}
 use Rattle.server.specs.declared.served.Served.TheVariants.{Aborted, Dropped}
 use Rattle.server.specs.Buffers.{full}
 use Rattle.server.specs.States.{State, Transfer, Idle, Download, Upload, BlockDownload, BlockEnd, is_idle, named}
-use Rattle.server.specs.Steps.{Step, Setting, committed, refused, ended, answered, dropped, kept, unless, commit, differs, completed, received, download_segment, crc_differs, upload_segment, given, block_end, asked, understood, ends, keep, pass_over, spoil, block_segment, asked_in_block, heard, taken, step}
-use Rattle.server.specs.Nodes.{Tick, timed_out, waited, tick}
+use Rattle.server.specs.Steps.{Step, Setting, refused, ended, answered, dropped, unless, commit, differs, completed, download_segment, crc_differs, upload_segment, block_end, asked, understood, ends, keep, pass_over, spoil, asked_in_block, heard, step}
+use Rattle.server.specs.Nodes.{timed_out, waited, tick}
 use Rattle.server.specs.Runs.{Notes, Nothing, Segments, Block, noted, noted_at, to, told, after_request, after_known, acknowledged, after_block, notes_after, notes_by, Scene, Event, Serve, happened, run, carried, Completes, ValuesCarried}
 use Rattle.server.specs.Runs as runs
 

@@ -20,9 +20,9 @@ use Rattle.sdo.specs.Transfers as coming
 use Rattle.dictionary.specs.Entries.{Entry}
 use Rattle.dictionary.specs.Verdicts.{write_verdict, start_verdict, read_verdict}
 use Rattle.server.specs.declared.block_start.BlockStart.{BlockStart}
-use Rattle.server.specs.States.{State, Transfer, Idle, Download, Upload, BlockDownload, BlockEnd, is_idle, named}
+use Rattle.server.specs.States.{State, Transfer, Idle, Download, Upload, BlockDownload, BlockEnd, is_idle}
 use Rattle.server.specs.Buffers.{full}
-use Rattle.server.specs.Steps.{differs, crc_differs, given, ends, Step, committed, refused, ended, answered, dropped, kept, nothing, unless, commit, completed, received, download_segment, upload_segment, block_end, asked, understood, keep, pass_over, spoil, block_segment, asked_in_block, heard, taken, step}
+use Rattle.server.specs.Steps.{differs, crc_differs, given, ends, Step, committed, refused, ended, answered, dropped, kept, nothing, unless, commit, completed, received, download_segment, upload_segment, block_end, asked, understood, keep, spoil, asked_in_block, heard, step}
 
 abbrev pub says_abort : Answer → Bool
 says_abort (answer.InitiateDownload m) = false

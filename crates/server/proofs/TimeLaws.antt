@@ -1,13 +1,10 @@
 -- When a node's time runs out.
-use Rattle.std.proofs.Common.{◌≡◌, ℕ, zero, suc, ◌+◌, ◌<◌, ◌≤◌, Bool, true, false, cond, leb, List, Some, None, Option, sym, refl, ap, ◌∙◌, add-zero, arith}
+use Rattle.std.proofs.Common.{◌≡◌, ℕ, zero, suc, ◌+◌, ◌<◌, ◌≤◌, false, sym, refl, ap, ◌∙◌, add-zero, arith}
 use Rattle.std.proofs.lemmas.Bool.{le-leb, lt-leb}
-use Rattle.wire.specs.declared.abort_code.AbortCode.TheVariants.{TimedOut}
-use Rattle.sdo.specs.Answers as answer
-use Rattle.dictionary.specs.Entries.{Entry}
-use Rattle.server.specs.States.{State, Idle, is_idle, named}
+use Rattle.server.specs.States.{State, is_idle}
 use Rattle.server.specs.Steps.{step}
 use Rattle.server.specs.Nodes.{Tick, timed_out, waited, tick}
-use Rattle.server.specs.Laws.{passed, FramesRestart, NoneChangesNothing, RunsOut, TimeRunsOut}
+use Rattle.server.specs.Laws.{passed, FramesRestart, NoneChangesNothing, TimeRunsOut}
 
 pub frames_restart : FramesRestart
 frames_restart d s f = refl

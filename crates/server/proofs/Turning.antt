@@ -1,5 +1,5 @@
 -- Steps told in other words: by what a dictionary answered, and by what the buffer holds.
-use Rattle.std.proofs.Common.{◌≡◌, ℕ, ◌+◌, ◌<◌, ◌≤◌, Bool, true, false, cond, eqb, ltb, leb, List, length, take, drop, Some, None, Ok, Err, Option, sym, refl, ap, ◌∙◌, subst, arith, take_all, lt-ltb, eq-eqb}
+use Rattle.std.proofs.Common.{◌≡◌, ℕ, ◌+◌, ◌<◌, ◌≤◌, Bool, true, false, cond, List, length, take, drop, Some, None, Ok, Err, Option, sym, refl, subst, arith, take_all, lt-ltb, eq-eqb}
 use Rattle.std.proofs.lemmas.Bool.{le-ltb, le-leb, lt-leb}
 use Rattle.wire.specs.declared.multiplexor.Multiplexor.{Multiplexor}
 use Rattle.wire.specs.declared.abort_code.AbortCode.{AbortCode}
@@ -17,7 +17,7 @@ use Rattle.server.specs.declared.block_start.BlockStart.{BlockStart}
 use Rattle.server.specs.declared.reaction.Reaction.{Reaction}
 use Rattle.server.specs.declared.transfer.Transfer as declared
 use Rattle.server.specs.States.{State, Idle, Download, Upload}
-use Rattle.server.specs.Steps.{Step, Setting, refused, answered, dropped, announced, given, completed, received, next_segment, understood, heard, taken, step}
+use Rattle.server.specs.Steps.{Step, Setting, refused, answered, announced, given, completed, received, next_segment, understood, heard, taken, step}
 use Rattle.server.specs.Nodes.{Turns, Does, Serves, dictionary_by, shown_transfer}
 
 left : (o : Option Setting) (d : List Entry) → o ≡ None → d ≡ dictionary_by o d

@@ -2,7 +2,6 @@
 use Rattle.std.specs.Prelude.{◌≡◌, ℕ, ◌+◌, ◌%◌, cond, List, drop, Some, None, Option, nat_le}
 use Rattle.std.specs.Option.{option_map}
 use Rattle.wire.specs.declared.frame.Frame.{Frame}
-use Rattle.wire.specs.declared.multiplexor.Multiplexor.{Multiplexor}
 use Rattle.wire.specs.declared.node_number.NodeNumber.{NodeNumber}
 use Rattle.wire.specs.declared.abort_code.AbortCode.TheVariants.{TimedOut}
 use Rattle.sdo.specs.declared.block_size.BlockSize.{BlockSize}

@@ -1,4 +1,4 @@
-use Rattle.std.proofs.Common.{◌≡◌, ℕ, length, Some, sym, ap, ◌∙◌, arith}
+use Rattle.std.proofs.Common.{◌≡◌, ℕ, length, Some, sym, ap, arith}
 use Rattle.dictionary.specs.Commits.{decided}
 use Rattle.dictionary.specs.Verdicts.{read_verdict}
 use Rattle.server.proofs.Loading.{never_short, read-refused, read_allowed, read_front}

@@ -1,4 +1,4 @@
-use Rattle.std.proofs.Common.{◌≡◌, ◌-◌, length, take, sym, ap, ◌∙◌, arith, length-take, take-take}
+use Rattle.std.proofs.Common.{◌≡◌, ◌-◌, length, sym, arith, length-take, take-take}
 use Rattle.server.specs.Buffers.{held}
 use Rattle.server.proofs.buffer.Buffer.shorten.Goals as goal
 

@@ -1,4 +1,4 @@
-use Rattle.std.proofs.Common.{◌≡◌, None, sym, ap, ◌∙◌}
+use Rattle.std.proofs.Common.{◌≡◌, None, ap, ◌∙◌}
 use Rattle.sdo.specs.Ranges.{expedited_of}
 use Rattle.server.specs.Buffers.{held}
 use Rattle.server.proofs.Turning.{turning, segments-given}

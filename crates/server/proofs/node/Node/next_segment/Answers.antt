@@ -1,4 +1,4 @@
-use Rattle.std.proofs.Common.{◌≡◌, ◌+◌, ◌<◌, ◌≤◌, true, false, length, take, drop, sym, ap, ◌∙◌, arith, length-drop, length-take, drop-drop}
+use Rattle.std.proofs.Common.{◌+◌, ◌<◌, ◌≤◌, true, false, length, take, drop, sym, ap, ◌∙◌, arith, length-drop, length-take, drop-drop}
 use Rattle.sdo.specs.Answers as answer
 use Rattle.sdo.specs.Segments.{data_value, other}
 use Rattle.server.specs.Buffers.{held}
