@@ -1,1 +1,2 @@
+mod Parting
 mod Placing

@@ -50,3 +50,8 @@ module _ {K R : Type 0} (before : K → K → Bool) (key : R → K) where
     pub within : n ≤ length rs
     pub below : Below k rs n
     pub above : Above k rs n
+
+  -- a place parts the rows by a key: all rows below it stand before the key, and none from it on does
+  pub record Parts (k : K) (rs : List R) (n : ℕ) : Type 0 where
+    pub below : (i : ℕ) (d : R) → i < n → before (key (slice_index_or rs i d)) k ≡ true
+    pub above : (i : ℕ) (d : R) → n ≤ i → i < length rs → before (key (slice_index_or rs i d)) k ≡ false

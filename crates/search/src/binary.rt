@@ -1,6 +1,6 @@
 //! The search, by halves.
 ghost use Rattle.std.specs.Prelude.{IfSome};
-ghost use Rattle.search.specs.Places.{Answers, Border, Rising, Stands};
+ghost use Rattle.search.specs.Places.{Answers, Border, Parts, Rising, Stands};
 
 use crate::key::Key;
 use crate::keyed::Keyed;
@@ -20,9 +20,10 @@ pub fn place<R: Keyed>(rows: &[R], key: R::Key) -> Option<usize>
     Some(first)
 }
 
-/// How many rows stand before a key, in rows of rising keys.
-fn count_before<R: Keyed>(rows: &[R], key: R::Key) -> usize
-    ensures { Border R.Key.Key.before R.Keyed.label key rows.now result }
+/// How many rows stand before a key, in rows of rising keys. In other rows it is some place where they may end.
+pub fn count_before<R: Keyed>(rows: &[R], key: R::Key) -> usize
+    ensures border { Border R.Key.Key.before R.Keyed.label key rows.now result }
+    ensures parts { Rising R.Key.Key.before R.Keyed.label rows.now → Parts R.Key.Key.before R.Keyed.label key rows.now result }
 {
     let mut low = 0;
     let mut high = rows.len();

@@ -7,6 +7,6 @@ mod keyed;
 mod multiplexor;
 mod number;
 
-pub use binary::place;
+pub use binary::{count_before, place};
 pub use key::Key;
 pub use keyed::Keyed;

@@ -12,6 +12,8 @@ mod node_tests;
 #[cfg(test)]
 mod order_tests;
 #[cfg(test)]
+mod register_tests;
+#[cfg(test)]
 mod search_tests;
 #[cfg(test)]
 mod table_tests;

@@ -1,5 +1,5 @@
 //! Rows found by their keys: counts by code, and values by multiplexor.
-use search::{Keyed, place};
+use search::{Keyed, count_before, place};
 use wire::Multiplexor;
 
 /// How often a code was seen.
@@ -106,4 +106,13 @@ fn a_row_that_is_found_has_the_key_even_in_disorder(rt: HostRuntime) {
     let rows = [row_of_code(3, 30), row_of_code(1, 10), row_of_code(2, 20)];
     assert_eq!(rt; times(&rows, 2), Some(20));
     assert_eq!(rt; times(&rows, 3), None);
+}
+
+#[test]
+fn rows_before_a_key_are_counted(rt: HostRuntime) {
+    let rows = [row_of_code(10, 0), row_of_code(20, 0), row_of_code(30, 0)];
+    assert_eq!(rt; count_before(&rows, 10), 0);
+    assert_eq!(rt; count_before(&rows, 11), 1);
+    assert_eq!(rt; count_before(&rows, 30), 2);
+    assert_eq!(rt; count_before(&rows, 31), 3);
 }

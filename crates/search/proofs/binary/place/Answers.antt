@@ -15,7 +15,7 @@ returns-then-first-rows g c =
       stands = tt;
       answers = λ up.
           answers before label laws.irreflexive k rows _
-          (missed_end before label laws.transitive k rows n up c.count_before-first.ensures (omega arith));
+          (missed_end before label laws.transitive k rows n up c.count_before-first.ensures.border (omega arith));
     }
 
 pub returns-then-is_before : goal.returns-then-is_before
@@ -34,7 +34,7 @@ returns-then-is_before g c =
       stands = tt;
       answers = λ up.
           answers before label laws.irreflexive k rows _
-          (missed_here before label laws.transitive k rows n up c.count_before-first.ensures x within beyond);
+          (missed_here before label laws.transitive k rows n up c.count_before-first.ensures.border x within beyond);
     }
 
 pub returns : goal.returns
@@ -46,7 +46,7 @@ returns g c =
     let k = c.args.key in
     let n = c.count_before-first.result in
     let x = c.index-rows-first.result in
-    let border = c.count_before-first.ensures in
+    let border = c.count_before-first.ensures.border in
     let within : n < length rows = omega arith in
     let here : (d : g.row.R.Denot) → before k (label (get_or rows n d)) ≡ false =
     λ d. let e = get_or_read rows n x within c.index-rows-first.is d in cc in
