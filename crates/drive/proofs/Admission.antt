@@ -1,5 +1,5 @@
 -- What is made of a number that is admitted has that number.
-use Rattle.std.proofs.Common.{◌≡◌, ℕ, Bool, true, false, cond, IfSome, Some, None, Option, sym, subst, arith}
+use Rattle.std.proofs.Common.{◌≡◌, ℕ, Bool, true, false, cond, IfSome, Some, None, Option, subst, arith}
 use Rattle.std.specs.Option.{option_map}
 use Rattle.drive.specs.Numbers.{if_admitted}
 

@@ -1,5 +1,5 @@
 -- Nothing speaks against bytes exactly where they are as many as they should be and stand for a number that is admitted.
-use Rattle.std.proofs.Common.{◌≡◌, ℕ, Bool, true, cond, not, ltb, ◌⊎◌, length, ℤ, pos, negsuc, Some, None, Option, ap, inl, inr, ⊎_elim, arith}
+use Rattle.std.proofs.Common.{◌≡◌, ℕ, Bool, true, cond, not, ltb, ◌⊎◌, length, ℤ, pos, negsuc, Some, None, Option, ap, ⊎_elim, arith}
 use Rattle.std.proofs.lemmas.Bool.{false≢true}
 use Rattle.std.proofs.lemmas.Bool.Decides.{nat_tests}
 use Rattle.wire.specs.declared.abort_code.AbortCode.{AbortCode}

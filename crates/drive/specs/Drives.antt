@@ -1,6 +1,6 @@
 -- What a drive means: two entries of CiA 402, the mode of operation and the profile acceleration, each of which shows its
 -- number as bytes and admits bytes by the number that they stand for.
-use Rattle.std.specs.Prelude.{ℕ, ◌≤◌, List, [], ◌∷◌, ℤ, pos, refl}
+use Rattle.std.specs.Prelude.{ℕ, List, [], ◌∷◌, ℤ, pos, refl}
 use Rattle.std.proofs.Common.{lit≤}
 use Rattle.wire.specs.declared.multiplexor.Multiplexor.{Multiplexor}
 use Rattle.dictionary.specs.declared.access.Access.TheVariants.{ReadWrite}

@@ -1,6 +1,6 @@
 -- What follows for every drive, in the words of one who sets its numbers: which bytes v it takes, and what it holds then.
 -- In the laws of setting, d is a drive before a commit and e the one after it.
-use Rattle.std.specs.Prelude.{◌≡◌, ℕ, ◌≤◌, ◌⊎◌, List, length, ℤ, pos, None}
+use Rattle.std.specs.Prelude.{◌≡◌, ℕ, ◌≤◌, ◌⊎◌, List, length, pos, None}
 use Rattle.dictionary.specs.Commits.{committed}
 use Rattle.dictionary.specs.Verdicts.{write_verdict}
 use Rattle.drive.specs.declared.drive.Drive.{Drive}

@@ -9,11 +9,11 @@ use Rattle.drive.proofs.mode.ModeOfOperation.of_bytes.Goals as goal
 pub returns-in-len1 : goal.returns-in-len1
 returns-in-len1 c =
     let v = c.args.value.now in
-    let n = c.from-le-bytes.result in
+    let n = c.from_le_bytes.result in
     let passed : to_z w8 (of_z w8 n) ≡ n = to_z-of_z {w = w8} {z = n} (search rules) in
     let shown : signed_bytes (to_z w8 (of_z w8 n)) ≡ v =
-    ap signed_bytes (passed ∙ c.from-le-bytes.ensures)
-    ∙ ap (λ (b : ℕ). b ∷ []) (of_z-to_z (c.type-inv.value 0))
+    ap signed_bytes (passed ∙ c.from_le_bytes.ensures)
+    ∙ ap (λ (b : ℕ). b ∷ []) (of_z-to_z (c.type_inv.value 0))
     ∙ spelled v 1 (search rules) in
     record {
       answer = search rules;
