@@ -3,7 +3,7 @@ ghost use Rattle.std.specs.Prelude.{◌≡◌, ◌<◌, ◌≤◌, length, if◌
 ghost use Rattle.master.specs.declared.refusal.BeginRefusal.TheVariants.{NotExpedited};
 ghost use Rattle.sdo.specs.Requests.{shown_request, InitiateDownload};
 ghost use Rattle.sdo.specs.Transfers.{Expedited};
-ghost use Rattle.master.specs.Calls.{Read, Write, start as start_of_lem, write_awaited, free, opened, starting, begin};
+ghost use Rattle.master.specs.Calls.{Read, Write, start as start_of, write_awaited, free, opened, starting, begin};
 ghost use Rattle.master.specs.Shown.{shown, shown_start, Begins};
 
 use super::Master;
@@ -83,7 +83,7 @@ fn write_start(
     multiplexor: Multiplexor,
     value: &[u8],
 ) -> Result<Request, BeginRefusal>
-    ensures { shown_start result ≡ start_of_lem multiplexor (Write method value.now) }
+    ensures { shown_start result ≡ start_of multiplexor (Write method value.now) }
 {
     if value.len() < 1 || value.len() > 1024 {
         return Err(BeginRefusal::ValueLength);

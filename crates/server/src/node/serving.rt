@@ -2,7 +2,7 @@
 ghost use Rattle.std.specs.Option.{option_map};
 ghost use Rattle.sdo.specs.Requests.{shown_request};
 ghost use Rattle.server.specs.Nodes.{Turns, Does, Serves, shown};
-ghost use Rattle.server.specs.Steps.{aborted as aborted-step, asked as asked-step, understood as understood-step, heard, taken as Taken-step};
+ghost use Rattle.server.specs.Steps.{aborted as aborted-step, asked as asked-step, understood as understood-step, heard, taken as taken-step};
 
 use super::Node;
 use crate::block_start::BlockStart;
@@ -29,7 +29,7 @@ impl Node {
 
     /// Takes a frame: one with another identifier than the node's is dropped.
     fn take<D: Writable>(&mut self, dictionary: &mut D, frame: Frame) -> Reaction
-        ensures { Does (Taken-step (D.Readable.meaning dictionary.old) (shown self.old) frame) (shown self.old) (shown self.new) (D.Readable.meaning dictionary.old) (D.Readable.meaning dictionary.new) result }
+        ensures { Does (taken-step (D.Readable.meaning dictionary.old) (shown self.old) frame) (shown self.old) (shown self.new) (D.Readable.meaning dictionary.old) (D.Readable.meaning dictionary.new) result }
     {
         if frame.identifier.number() != Identifier::of_requests(self.number).number() {
             return self.ignore();

@@ -4,7 +4,7 @@ ghost use Rattle.wire.specs.declared.abort_code.AbortCode.TheVariants.{TimedOut}
 ghost use Rattle.sdo.specs.Answers.{Abort};
 ghost use Rattle.sdo.specs.Frames.{answer_frame};
 ghost use Rattle.server.specs.Nodes.{Ticks, shown, timed_out};
-ghost use Rattle.server.specs.States.{named as Named-by};
+ghost use Rattle.server.specs.States.{named as named-by};
 
 use super::Node;
 use crate::transfer::Transfer;
@@ -31,7 +31,7 @@ impl Node {
 
     /// Ends the transfer by an abort.
     fn time_out(&mut self) -> Frame
-        ensures { (result ≡ answer_frame self.old.number (Abort (Named-by (shown self.old).transfer) TimedOut)) × (shown self.new ≡ (timed_out (shown self.old)).next) }
+        ensures { (result ≡ answer_frame self.old.number (Abort (named-by (shown self.old).transfer) TimedOut)) × (shown self.new ≡ (timed_out (shown self.old)).next) }
     {
         let abort = Answer::Abort {
             multiplexor: self.named(),

@@ -3,7 +3,7 @@ ghost use Rattle.std.specs.Prelude.{◌≡◌, Some, None};
 ghost use Rattle.sdo.specs.Answers.{shown_answer};
 ghost use Rattle.server.specs.Buffers.{held};
 ghost use Rattle.server.specs.Nodes.{Turns, Does, shown, shown_transfer};
-ghost use Rattle.server.specs.States.{named as Named-by};
+ghost use Rattle.server.specs.States.{named as named-by};
 ghost use Rattle.server.specs.Steps.{commit as commit-step, refused, ended, dropped, unexpected as unexpected-step};
 
 use super::Node;
@@ -23,7 +23,7 @@ const NOWHERE: Multiplexor = Multiplexor {
 impl Node {
     /// The multiplexor that an abort names: the transfer's, zeros without one.
     pub(super) fn named(&self) -> Multiplexor
-        ensures { result ≡ Named-by (shown self.now).transfer }
+        ensures { result ≡ named-by (shown self.now).transfer }
     {
         match self.transfer {
             Transfer::Idle => NOWHERE,
