@@ -1,8 +1,6 @@
-use Rattle.wire.specs.Frames.{answer_identifier}
-use Rattle.wire.proofs.Identifiers.{same_identifier}
+use Rattle.std.proofs.Common.{rules}
+use Rattle.sdo.proofs.Framing.{framed}
 use Rattle.sdo.proofs.answer.Answer.to_frame.Goals as goal
 
 pub returns : goal.returns
-returns c =
-    let same = same_identifier c.of_answers.result (answer_identifier c.args.node) c.of_answers.ensures in
-    cc
+returns c = search (rules, framed)
