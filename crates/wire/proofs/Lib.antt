@@ -1,6 +1,6 @@
 pub mod Digits
-pub mod Fitting
+pub mod FieldsBack
 pub mod Identifiers
 pub mod Padding
-pub mod Spelling
 pub mod RoundTrips
+pub mod Spelling

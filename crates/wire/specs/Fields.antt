@@ -1,5 +1,7 @@
 -- The fields of a frame's eight bytes b0 to b7. Numbers of several bytes stand with the lowest byte first.
-use Rattle.std.specs.Prelude.{ℕ, ◌+◌, ◌-◌, ◌*◌, ◌/◌, ◌%◌, Bool, List, [], ◌∷◌, ◌++◌, length, replicate, ◌==◌, slice_index}
+use Rattle.std.specs.Prelude.{ℕ, ◌+◌, ◌*◌, ◌/◌, ◌%◌, Bool, List, [], ◌∷◌, ◌++◌, ◌==◌, slice_index}
+use Rattle.wire.specs.AbortCodes.{number, code}
+use Rattle.wire.specs.declared.abort_code.AbortCode.{AbortCode}
 use Rattle.wire.specs.declared.multiplexor.Multiplexor.{Multiplexor}
 
 -- byte k of a frame
@@ -31,9 +33,12 @@ number_bytes n = n % 256 ∷ n / 256 % 256 ∷ n / 65536 % 256 ∷ n / 16777216 
 abbrev pub number_in : List ℕ → ℕ
 number_in bytes = b 4 bytes + b 5 bytes * 256 + b 6 bytes * 65536 + b 7 bytes * 16777216
 
--- n bytes that begin with a value; the others are zero
-abbrev pub padded : ℕ → List ℕ → List ℕ
-padded n v = v ++ replicate (n - length v) 0
-
 abbrev pub last_four : List ℕ → List ℕ
 last_four bytes = b 4 bytes ∷ b 5 bytes ∷ b 6 bytes ∷ b 7 bytes ∷ []
+
+-- an abort, the same in both directions
+abbrev pub abort_bytes : Multiplexor → AbortCode → List ℕ
+abort_bytes m c = 0x80 ∷ (multiplexor_bytes m ++ number_bytes (number c))
+
+abbrev pub abort_code_in : List ℕ → AbortCode
+abort_code_in bytes = code (number_in bytes)

@@ -1,6 +1,7 @@
 pub mod AbortCodes
 pub mod Multiplexors
 pub mod Ranges
+pub mod FrameData
 pub mod Fields
 pub mod Transfers
 pub mod Requests

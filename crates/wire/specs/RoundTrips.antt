@@ -1,5 +1,5 @@
 -- Reading what was made gives back what went in, for every message that fits its frame.
-use Rattle.std.specs.Prelude.{◌≡◌, ℕ, ◌^◌, ◌<◌, ◌≤◌, length, Some, None, ◌≢◌}
+use Rattle.std.specs.Prelude.{◌≡◌, ℕ, ◌^◌, ◌<◌, ◌≤◌, length, Some, None, Option, ◌≢◌}
 use Rattle.wire.specs.declared.multiplexor.Multiplexor.{Multiplexor}
 use Rattle.wire.specs.declared.abort_code.AbortCode.{AbortCode}
 use Rattle.wire.specs.declared.abort_code.AbortCode.TheVariants.{Other}
@@ -14,11 +14,15 @@ use Rattle.wire.specs.Answers as answer
 abbrev pub Indexed : Multiplexor → Type 0
 Indexed m = m.index < 2 ^ 16
 
--- one to four bytes at once, or a size of 32 bits
+-- a size of 32 bits, or none
+abbrev pub Sized : Option ℕ → Type 0
+Sized (Some size) = size < 2 ^ 32
+Sized None = Unit {0}
+
+-- one to four bytes at once, or a size
 abbrev pub Carried : Transfer → Type 0
 Carried (Expedited v) = (1 ≤ length v) × (length v ≤ 4)
-Carried (Segmented (Some size)) = size < 2 ^ 32
-Carried (Segmented None) = Unit {0}
+Carried (Segmented size) = Sized size
 
 -- a code of 32 bits under its own case
 abbrev pub Proper : AbortCode → Type 0

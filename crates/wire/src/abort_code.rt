@@ -25,31 +25,6 @@ pub enum AbortCode {
 }
 
 impl AbortCode {
-    /// The code's 32-bit number.
-    pub fn number(self) -> u32
-        ensures { result ≡ number self }
-    {
-        match self {
-            AbortCode::ToggleNotAlternated => 0x0503_0000,
-            AbortCode::TimedOut => 0x0504_0000,
-            AbortCode::UnknownCommand => 0x0504_0001,
-            AbortCode::InvalidBlockSize => 0x0504_0002,
-            AbortCode::InvalidSequenceNumber => 0x0504_0003,
-            AbortCode::CrcError => 0x0504_0004,
-            AbortCode::OutOfMemory => 0x0504_0005,
-            AbortCode::WriteOnly => 0x0601_0001,
-            AbortCode::ReadOnly => 0x0601_0002,
-            AbortCode::NoObject => 0x0602_0000,
-            AbortCode::LengthMismatch => 0x0607_0010,
-            AbortCode::LengthTooHigh => 0x0607_0012,
-            AbortCode::LengthTooLow => 0x0607_0013,
-            AbortCode::NoSubindex => 0x0609_0011,
-            AbortCode::InvalidValue => 0x0609_0030,
-            AbortCode::GeneralError => 0x0800_0000,
-            AbortCode::Other(number) => number,
-        }
-    }
-
     /// What the code says.
     pub fn words(self) -> &'static str
         ensures { result.now ≡ words self }
@@ -74,11 +49,40 @@ impl AbortCode {
             AbortCode::Other(_) => "code not listed",
         }
     }
+}
 
-    /// The code with a number.
-    pub fn from_number(n: u32) -> AbortCode
-        ensures { result ≡ code n }
-    {
+/// The code's 32-bit number.
+impl From<AbortCode> for u32 {
+    ghost from_gives = { λ code n. n ≡ number code };
+
+    fn from(code: AbortCode) -> u32 {
+        match code {
+            AbortCode::ToggleNotAlternated => 0x0503_0000,
+            AbortCode::TimedOut => 0x0504_0000,
+            AbortCode::UnknownCommand => 0x0504_0001,
+            AbortCode::InvalidBlockSize => 0x0504_0002,
+            AbortCode::InvalidSequenceNumber => 0x0504_0003,
+            AbortCode::CrcError => 0x0504_0004,
+            AbortCode::OutOfMemory => 0x0504_0005,
+            AbortCode::WriteOnly => 0x0601_0001,
+            AbortCode::ReadOnly => 0x0601_0002,
+            AbortCode::NoObject => 0x0602_0000,
+            AbortCode::LengthMismatch => 0x0607_0010,
+            AbortCode::LengthTooHigh => 0x0607_0012,
+            AbortCode::LengthTooLow => 0x0607_0013,
+            AbortCode::NoSubindex => 0x0609_0011,
+            AbortCode::InvalidValue => 0x0609_0030,
+            AbortCode::GeneralError => 0x0800_0000,
+            AbortCode::Other(number) => number,
+        }
+    }
+}
+
+/// The code with a number.
+impl From<u32> for AbortCode {
+    ghost from_gives = { λ n result. result ≡ code n };
+
+    fn from(n: u32) -> AbortCode {
         match n {
             0x0503_0000 => AbortCode::ToggleNotAlternated,
             0x0504_0000 => AbortCode::TimedOut,

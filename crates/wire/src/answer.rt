@@ -4,7 +4,7 @@ ghost use Rattle.std.specs.Option.{option_map};
 ghost use Rattle.wire.specs.Answers.{answer_bytes, answer_in, shown_answer};
 
 use crate::abort_code::AbortCode;
-use crate::layout;
+use crate::layout::{self, Initiate};
 use crate::multiplexor::Multiplexor;
 use crate::transfer::Transfer;
 
@@ -34,12 +34,8 @@ impl Answer {
             Answer::InitiateUpload {
                 multiplexor,
                 transfer,
-            } => layout::initiate(0x40, multiplexor, transfer),
-            Answer::Abort { multiplexor, code } => layout::message(
-                0x80,
-                multiplexor,
-                code.number().to_le_bytes(),
-            ),
+            } => Initiate::Upload.message(multiplexor, transfer),
+            Answer::Abort { multiplexor, code } => layout::abort(multiplexor, code),
         }
     }
 
@@ -51,12 +47,12 @@ impl Answer {
         match bytes[0] / 32 {
             2 => Some(Answer::InitiateUpload {
                 multiplexor,
-                transfer: layout::transfer(bytes),
+                transfer: Transfer::from_frame(bytes),
             }),
             3 => Some(Answer::InitiateDownload { multiplexor }),
             4 => Some(Answer::Abort {
                 multiplexor,
-                code: layout::code(bytes),
+                code: layout::abort_code(bytes),
             }),
             _ => None,
         }

@@ -3,10 +3,10 @@
 
 mod abort_code;
 mod answer;
-mod expedited;
 mod frame;
+mod frame_data;
 mod identifier;
-mod layout;
+pub mod layout;
 mod multiplexor;
 mod node_number;
 mod request;
@@ -16,8 +16,8 @@ mod transfer;
 
 pub use abort_code::AbortCode;
 pub use answer::Answer;
-pub use expedited::ExpeditedData;
 pub use frame::Frame;
+pub use frame_data::{ExpeditedData, FrameData};
 pub use identifier::Identifier;
 pub use multiplexor::Multiplexor;
 pub use node_number::NodeNumber;

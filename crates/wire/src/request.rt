@@ -4,7 +4,7 @@ ghost use Rattle.std.specs.Option.{option_map};
 ghost use Rattle.wire.specs.Requests.{request_bytes, request_in, shown_request};
 
 use crate::abort_code::AbortCode;
-use crate::layout;
+use crate::layout::{self, Initiate};
 use crate::multiplexor::Multiplexor;
 use crate::transfer::Transfer;
 
@@ -33,13 +33,9 @@ impl Request {
             Request::InitiateDownload {
                 multiplexor,
                 transfer,
-            } => layout::initiate(0x20, multiplexor, transfer),
+            } => Initiate::Download.message(multiplexor, transfer),
             Request::InitiateUpload { multiplexor } => layout::message(0x40, multiplexor, [0; 4]),
-            Request::Abort { multiplexor, code } => layout::message(
-                0x80,
-                multiplexor,
-                code.number().to_le_bytes(),
-            ),
+            Request::Abort { multiplexor, code } => layout::abort(multiplexor, code),
         }
     }
 
@@ -51,12 +47,12 @@ impl Request {
         match bytes[0] / 32 {
             1 => Some(Request::InitiateDownload {
                 multiplexor,
-                transfer: layout::transfer(bytes),
+                transfer: Transfer::from_frame(bytes),
             }),
             2 => Some(Request::InitiateUpload { multiplexor }),
             4 => Some(Request::Abort {
                 multiplexor,
-                code: layout::code(bytes),
+                code: layout::abort_code(bytes),
             }),
             _ => None,
         }

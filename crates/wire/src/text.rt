@@ -77,7 +77,7 @@ impl fmt::Display for AbortCode {
     ghost output = { λ c. Some (code_text c) };
 
     fn fmt<W: fmt::Write>(&self, f: &mut fmt::Formatter<W>) -> fmt::Result {
-        let [d, c, b, a] = self.number().to_le_bytes();
+        let [d, c, b, a] = u32::from(*self).to_le_bytes();
         let a = Hex(a);
         let b = Hex(b);
         let c = Hex(c);
