@@ -1,6 +1,5 @@
 pub mod FieldsBack
 pub mod Framing
 pub mod Joining
-pub mod Padding
 pub mod RoundTrips
 pub mod Spelling

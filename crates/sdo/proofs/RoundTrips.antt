@@ -2,18 +2,22 @@
 use Rattle.std.proofs.Common.{◌≡◌, ℕ, ◌+◌, ◌*◌, ◌/◌, ◌%◌, Bool, true, false, cond, eqb, List, [], ◌∷◌, ◌++◌, length, Some, None, Option, refl, ap, ◌∙◌, arith, ne_eqb}
 use Rattle.wire.specs.declared.multiplexor.Multiplexor.{Multiplexor}
 use Rattle.wire.specs.AbortCodes.{number}
-use Rattle.sdo.specs.Fields.{set_bit, multiplexor_bytes, multiplexor_in, number_bytes, number_in, last_seven, abort_bytes, abort_code_in}
-use Rattle.sdo.specs.Transfers.{transfer_bits, transfer_bytes, transfer_in}
+use Rattle.wire.specs.declared.layout.Initiate.TheVariants.{Download, Upload}
+use Rattle.wire.specs.Fields.{multiplexor_bytes, multiplexor_in, number_bytes, number_in, abort_bytes, abort_code_in}
+use Rattle.wire.specs.Transfers.{transfer_bits, transfer_bytes, transfer_in, initiate_bytes}
+use Rattle.wire.specs.RoundTrips.{Indexed, Sized}
+use Rattle.wire.proofs.FieldsBack.{two_bytes, four_bytes, four_bits, multiplexor_back, download_back, upload_back, code_back}
+use Rattle.sdo.specs.Fields.{set_bit, last_seven}
 use Rattle.sdo.specs.Segments.{segment_bytes, data_in, last_in}
 use Rattle.sdo.specs.Blocks.{end_bytes, crc_in}
 use Rattle.sdo.specs.Requests as request
 use Rattle.sdo.specs.BlockRequests as block
 use Rattle.sdo.specs.Answers as answer
-use Rattle.sdo.specs.RoundTrips.{Indexed, Sized, RequestsReadBack, BlockRequestsReadBack, AnswersReadBack}
+use Rattle.sdo.specs.RoundTrips.{RequestsReadBack, BlockRequestsReadBack, AnswersReadBack}
 use Rattle.sdo.specs.declared.toggle.Toggle.TheVariants.{Zero, One}
 use Rattle.sdo.specs.declared.crc_offer.CrcOffer.{CrcOffer}
 use Rattle.sdo.specs.declared.crc_offer.CrcOffer.TheVariants.{Offered, NotOffered}
-use Rattle.sdo.proofs.FieldsBack.{two_bytes, four_bytes, four_bits, multiplexor_back, download_back, upload_back, code_back, toggle_back, last_back, data_back, segment-kind}
+use Rattle.sdo.proofs.FieldsBack.{toggle_back, last_back, data_back, segment_kind}
 use Rattle.sdo.proofs.Spelling.{from_the_first}
 
 block_start_back : (m : Multiplexor) → Indexed m → (crc : CrcOffer) (size : Option ℕ) → Sized size → request.request_in (request.request_bytes (request.InitiateBlockDownload m crc size)) ≡ Some (request.InitiateBlockDownload m crc size)
@@ -29,14 +33,14 @@ block_start_back m own NotOffered None fits = ap (λ x. Some (request.InitiateBl
 pub requests_read_back : RequestsReadBack
 requests_read_back (request.InitiateDownload m t) (own, fits) =
     let low = four_bits t fits in
-    let bytes = (0x20 + transfer_bits t) ∷ (multiplexor_bytes m ++ transfer_bytes t) in
+    let bytes = initiate_bytes Download m t in
     let kind : (0x20 + transfer_bits t) / 32 ≡ 1 = omega arith in
     ap (λ k. request.request_of_kind k bytes) kind
     ∙ ap (λ x. Some (request.InitiateDownload x (transfer_in bytes))) (multiplexor_back m own (0x20 + transfer_bits t) (transfer_bytes t))
     ∙ ap (λ x. Some (request.InitiateDownload m x)) (download_back m own t fits)
 requests_read_back (request.DownloadSegment t v last) fits =
     let bytes = segment_bytes t v last in
-    ap (λ k. request.request_of_kind k bytes) (segment-kind t v last fits)
+    ap (λ k. request.request_of_kind k bytes) (segment_kind t v last fits)
     ∙ ap (λ x. Some (request.DownloadSegment x (data_in bytes) (last_in bytes))) (toggle_back t v last fits)
     ∙ ap (λ x. Some (request.DownloadSegment t x (last_in bytes))) (data_back t v last fits)
     ∙ ap (λ x. Some (request.DownloadSegment t v x)) (last_back t v last fits)
@@ -86,14 +90,14 @@ answers_read_back (answer.DownloadSegment Zero) fits = refl
 answers_read_back (answer.DownloadSegment One) fits = refl
 answers_read_back (answer.InitiateUpload m t) (own, fits) =
     let low = four_bits t fits in
-    let bytes = (0x40 + transfer_bits t) ∷ (multiplexor_bytes m ++ transfer_bytes t) in
+    let bytes = initiate_bytes Upload m t in
     let kind : (0x40 + transfer_bits t) / 32 ≡ 2 = omega arith in
     ap (λ k. answer.answer_of_kind k bytes) kind
     ∙ ap (λ x. Some (answer.InitiateUpload x (transfer_in bytes))) (multiplexor_back m own (0x40 + transfer_bits t) (transfer_bytes t))
     ∙ ap (λ x. Some (answer.InitiateUpload m x)) (upload_back m own t fits)
 answers_read_back (answer.UploadSegment t v last) fits =
     let bytes = segment_bytes t v last in
-    ap (λ k. answer.answer_of_kind k bytes) (segment-kind t v last fits)
+    ap (λ k. answer.answer_of_kind k bytes) (segment_kind t v last fits)
     ∙ ap (λ x. Some (answer.UploadSegment x (data_in bytes) (last_in bytes))) (toggle_back t v last fits)
     ∙ ap (λ x. Some (answer.UploadSegment t x (last_in bytes))) (data_back t v last fits)
     ∙ ap (λ x. Some (answer.UploadSegment t v x)) (last_back t v last fits)

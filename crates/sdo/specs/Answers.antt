@@ -2,9 +2,12 @@
 use Rattle.std.specs.Prelude.{ℕ, ◌+◌, ◌*◌, ◌%◌, Bool, cond, List, [], ◌∷◌, ◌++◌, Some, None, Option, ◌==◌}
 use Rattle.wire.specs.declared.multiplexor.Multiplexor.{Multiplexor}
 use Rattle.wire.specs.declared.abort_code.AbortCode.{AbortCode}
-use Rattle.sdo.specs.Fields.{b, kind, multiplexor_bytes, multiplexor_in, number_bytes, bare, abort_bytes, abort_code_in}
-use Rattle.sdo.specs.Transfers.{Transfer, transfer_bits, transfer_bytes, transfer_in, shown_transfer}
-use Rattle.sdo.specs.Segments.{toggle_bit, toggle_in, segment_bytes, data_in, last_in, data_value}
+use Rattle.wire.specs.declared.layout.Initiate.TheVariants.{Upload}
+use Rattle.wire.specs.Fields.{b, kind, multiplexor_bytes, multiplexor_in, number_bytes, abort_bytes, abort_code_in}
+use Rattle.wire.specs.FrameData.{value_in}
+use Rattle.wire.specs.Transfers.{Transfer, initiate_bytes, transfer_in, shown_transfer}
+use Rattle.sdo.specs.Fields.{bare}
+use Rattle.sdo.specs.Segments.{toggle_bit, toggle_in, segment_bytes, data_in, last_in}
 use Rattle.sdo.specs.Blocks.{offer_bit, offer_in}
 use Rattle.sdo.specs.declared.toggle.Toggle.{Toggle}
 use Rattle.sdo.specs.declared.crc_offer.CrcOffer.{CrcOffer}
@@ -25,7 +28,7 @@ pub data Answer : Type 0 where
 abbrev pub answer_bytes : Answer → List ℕ
 answer_bytes (InitiateDownload m) = 0x60 ∷ (multiplexor_bytes m ++ number_bytes 0)
 answer_bytes (DownloadSegment t) = bare (0x20 + 16 * toggle_bit t)
-answer_bytes (InitiateUpload m t) = (0x40 + transfer_bits t) ∷ (multiplexor_bytes m ++ transfer_bytes t)
+answer_bytes (InitiateUpload m t) = initiate_bytes Upload m t
 answer_bytes (UploadSegment t v last) = segment_bytes t v last
 answer_bytes (InitiateBlockDownload m crc size) = (0xa0 + 4 * offer_bit crc) ∷ (multiplexor_bytes m ++ (size ∷ 0 ∷ 0 ∷ 0 ∷ []))
 answer_bytes (AcknowledgeBlock kept size) = 0xa2 ∷ kept ∷ size ∷ 0 ∷ 0 ∷ 0 ∷ 0 ∷ 0 ∷ []
@@ -69,7 +72,7 @@ abbrev pub shown_answer : declared.Answer → Answer
 shown_answer (declared.TheVariants.InitiateDownload m) = InitiateDownload m
 shown_answer (declared.TheVariants.DownloadSegment t) = DownloadSegment t
 shown_answer (declared.TheVariants.InitiateUpload m t) = InitiateUpload m (shown_transfer t)
-shown_answer (declared.TheVariants.UploadSegment t d last) = UploadSegment t (data_value d) last
+shown_answer (declared.TheVariants.UploadSegment s) = UploadSegment s.toggle (value_in s.bytes) s.last
 shown_answer (declared.TheVariants.InitiateBlockDownload m crc size) = InitiateBlockDownload m crc size
 shown_answer (declared.TheVariants.AcknowledgeBlock kept size) = AcknowledgeBlock kept size
 shown_answer declared.TheVariants.EndBlockDownload = EndBlockDownload

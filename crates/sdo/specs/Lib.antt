@@ -1,6 +1,5 @@
 pub mod Ranges
 pub mod Fields
-pub mod Transfers
 pub mod Segments
 pub mod Blocks
 pub mod Requests

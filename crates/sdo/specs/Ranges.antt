@@ -1,21 +1,15 @@
 -- The ranges of the lengths and numbers in messages.
-use Rattle.std.specs.Prelude.{ℕ, Bool, cond, ◌&&◌, List, length, Some, None, Option, nat_le, nat_lt}
+use Rattle.std.specs.Prelude.{ℕ, cond, ◌&&◌, List, Some, None, Option, nat_le}
+use Rattle.wire.specs.FrameData.{data_of}
 
--- a value of one to four bytes fits into the start of a transfer
-abbrev pub fits_expedited : List ℕ → Bool
-fits_expedited v = nat_le 1 (length v) && nat_le (length v) 4
-
-abbrev pub expedited_of : List ℕ → Option (List ℕ)
-expedited_of v = cond (fits_expedited v) (Some v) None
-
--- a segment carries up to seven bytes
-abbrev pub segment_data_of : List ℕ → Option (List ℕ)
-segment_data_of v = cond (nat_le (length v) 7) (Some v) None
-
--- a number below a limit
-abbrev pub below : ℕ → ℕ → Option ℕ
-below limit n = cond (nat_lt n limit) (Some n) None
+-- a number within two bounds
+abbrev pub in_range : ℕ → ℕ → ℕ → Option ℕ
+in_range low high n = cond (nat_le low n && nat_le n high) (Some n) None
 
 -- a sub-block has 1 to 127 segments
 abbrev pub block_size_of : ℕ → Option ℕ
-block_size_of n = cond (nat_le 1 n && nat_le n 127) (Some n) None
+block_size_of n = in_range 1 127 n
+
+-- a segment carries up to seven bytes
+abbrev pub segment_data_of : List ℕ → Option (List ℕ)
+segment_data_of v = data_of 0 7 v

@@ -2,9 +2,12 @@
 use Rattle.std.specs.Prelude.{ℕ, ◌+◌, ◌*◌, Bool, cond, List, ◌∷◌, ◌++◌, Some, None, Option, ◌==◌}
 use Rattle.wire.specs.declared.multiplexor.Multiplexor.{Multiplexor}
 use Rattle.wire.specs.declared.abort_code.AbortCode.{AbortCode}
-use Rattle.sdo.specs.Fields.{b, bit0, kind, multiplexor_bytes, multiplexor_in, number_bytes, bare, abort_bytes, abort_code_in}
-use Rattle.sdo.specs.Transfers.{Transfer, transfer_bits, transfer_bytes, transfer_in, shown_transfer}
-use Rattle.sdo.specs.Segments.{toggle_bit, toggle_in, segment_bytes, data_in, last_in, data_value}
+use Rattle.wire.specs.declared.layout.Initiate.TheVariants.{Download}
+use Rattle.wire.specs.Fields.{b, bit0, kind, multiplexor_bytes, multiplexor_in, number_bytes, abort_bytes, abort_code_in}
+use Rattle.wire.specs.FrameData.{value_in}
+use Rattle.wire.specs.Transfers.{Transfer, initiate_bytes, transfer_in, shown_transfer}
+use Rattle.sdo.specs.Fields.{bare}
+use Rattle.sdo.specs.Segments.{toggle_bit, toggle_in, segment_bytes, data_in, last_in}
 use Rattle.sdo.specs.Blocks.{offer_bit, offer_in, size_bit, size_number, size_in, end_bytes, unused_in, crc_in}
 use Rattle.sdo.specs.declared.toggle.Toggle.{Toggle}
 use Rattle.sdo.specs.declared.crc_offer.CrcOffer.{CrcOffer}
@@ -22,7 +25,7 @@ pub data Request : Type 0 where
 
 -- the bytes of a request
 abbrev pub request_bytes : Request → List ℕ
-request_bytes (InitiateDownload m t) = (0x20 + transfer_bits t) ∷ (multiplexor_bytes m ++ transfer_bytes t)
+request_bytes (InitiateDownload m t) = initiate_bytes Download m t
 request_bytes (DownloadSegment t v last) = segment_bytes t v last
 request_bytes (InitiateUpload m) = 0x40 ∷ (multiplexor_bytes m ++ number_bytes 0)
 request_bytes (UploadSegment t) = bare (0x60 + 16 * toggle_bit t)
@@ -61,7 +64,7 @@ request_in bytes = request_of_kind (kind bytes) bytes
 -- what a request of the code says
 abbrev pub shown_request : declared.Request → Request
 shown_request (declared.TheVariants.InitiateDownload m t) = InitiateDownload m (shown_transfer t)
-shown_request (declared.TheVariants.DownloadSegment t d last) = DownloadSegment t (data_value d) last
+shown_request (declared.TheVariants.DownloadSegment s) = DownloadSegment s.toggle (value_in s.bytes) s.last
 shown_request (declared.TheVariants.InitiateUpload m) = InitiateUpload m
 shown_request (declared.TheVariants.UploadSegment t) = UploadSegment t
 shown_request (declared.TheVariants.InitiateBlockDownload m crc size) = InitiateBlockDownload m crc size

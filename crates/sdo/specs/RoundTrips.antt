@@ -1,33 +1,12 @@
 -- Reading what was made gives back what went in, for every message that fits its frame.
 use Rattle.std.specs.Prelude.{◌≡◌, ℕ, ◌^◌, ◌<◌, ◌≤◌, Bool, true, false, length, Some, None, Option}
-use Rattle.wire.specs.declared.multiplexor.Multiplexor.{Multiplexor}
-use Rattle.wire.specs.declared.abort_code.AbortCode.{AbortCode}
-use Rattle.wire.specs.AbortCodes.{number, code}
-use Rattle.sdo.specs.Transfers.{Transfer, Expedited, Segmented}
+use Rattle.wire.specs.RoundTrips.{Indexed, Sized, Carried, Proper}
 use Rattle.sdo.specs.Requests.{Request, request_bytes, request_in}
 use Rattle.sdo.specs.Requests as request
 use Rattle.sdo.specs.BlockRequests.{BlockRequest, block_request_bytes, block_request_in}
 use Rattle.sdo.specs.BlockRequests as block
 use Rattle.sdo.specs.Answers.{Answer, answer_bytes, answer_in}
 use Rattle.sdo.specs.Answers as answer
-
--- an index of 16 bits
-abbrev pub Indexed : Multiplexor → Type 0
-Indexed m = m.index < 2 ^ 16
-
--- a size of 32 bits, or none
-abbrev pub Sized : Option ℕ → Type 0
-Sized (Some size) = size < 2 ^ 32
-Sized None = Unit {0}
-
--- one to four bytes at once, or a size
-abbrev pub Carried : Transfer → Type 0
-Carried (Expedited v) = (1 ≤ length v) × (length v ≤ 4)
-Carried (Segmented size) = Sized size
-
--- a code of 32 bits under its own case
-abbrev pub Proper : AbortCode → Type 0
-Proper c = (number c < 2 ^ 32) × (code (number c) ≡ c)
 
 abbrev pub RequestFits : Request → Type 0
 RequestFits (request.InitiateDownload m t) = Indexed m × Carried t

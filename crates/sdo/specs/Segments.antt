@@ -1,10 +1,11 @@
 -- Segments of a value: which part each one carries, and the bytes of a segment in both directions.
 -- A segment has up to seven bytes of the value, its toggle bit, and a mark if it is the last.
 use Rattle.std.specs.Prelude.{◌≡◌, ℕ, zero, suc, ◌+◌, ◌-◌, ◌*◌, ◌/◌, ◌%◌, Bool, true, false, cond, List, [], ◌∷◌, ◌++◌, length, take, drop}
-use Rattle.sdo.specs.Fields.{b, bit0, bit4, set_bit, padded, last_seven}
+use Rattle.wire.specs.Fields.{b, bit0}
+use Rattle.wire.specs.FrameData.{padded}
+use Rattle.sdo.specs.Fields.{bit4, set_bit, last_seven}
 use Rattle.sdo.specs.declared.toggle.Toggle.{Toggle}
 use Rattle.sdo.specs.declared.toggle.Toggle.TheVariants.{Zero, One}
-use Rattle.sdo.specs.declared.segment_data.SegmentData.{SegmentData}
 
 -- the part of a value that a segment carries, numbered from 1
 abbrev pub segment : ℕ → List ℕ → List ℕ
@@ -50,7 +51,3 @@ data_in bytes = take (segment_length (b 0 bytes)) (last_seven bytes)
 
 abbrev pub last_in : List ℕ → Bool
 last_in bytes = bit0 (b 0 bytes)
-
--- the bytes that a segment's data stands for
-abbrev pub data_value : SegmentData → List ℕ
-data_value d = take d.len d.bytes

@@ -2,17 +2,17 @@
 ghost use Rattle.std.specs.Prelude.{◌≡◌};
 ghost use Rattle.std.specs.Option.{option_map};
 ghost use Rattle.sdo.specs.Frames.{answer_frame};
-ghost use Rattle.sdo.specs.Answers.{answer_bytes, answer_in, shown_answer, upload_segment_in, block_started_in, acknowledgement_in, block_answer_in};
+ghost use Rattle.sdo.specs.Answers.{answer_bytes, answer_in, shown_answer, block_started_in, acknowledgement_in, block_answer_in};
 
 use crate::crc_offer::CrcOffer;
-use crate::segment_data::SegmentData;
+use crate::segment_frame::Segment;
 use crate::toggle::Toggle;
-use crate::transfer::Transfer;
 use crate::{making, reading};
-use wire::{AbortCode, Frame, Identifier, Multiplexor, NodeNumber};
+use wire::layout::{self, Initiate};
+use wire::{AbortCode, Frame, Identifier, Multiplexor, NodeNumber, Transfer};
 
 /// An answer, by the CiA 301 name of its protocol.
-#[derive(Clone, Copy, PartialEq)]
+#[derive(Clone, Copy, PartialEq, Eq, Debug)]
 pub enum Answer {
     /// A write may go on, or is done where its start had the value.
     InitiateDownload {
@@ -28,11 +28,7 @@ pub enum Answer {
         transfer: Transfer,
     },
     /// A segment of a value that is read.
-    UploadSegment {
-        toggle: Toggle,
-        data: SegmentData,
-        last: bool,
-    },
+    UploadSegment(Segment),
     /// A block write may go on, with sub-blocks of a size that the master has to judge.
     InitiateBlockDownload {
         multiplexor: Multiplexor,
@@ -59,24 +55,24 @@ impl Answer {
         ensures { result ≡ answer_bytes (shown_answer self.now) }
     {
         match *self {
-            Answer::InitiateDownload { multiplexor } => making::message(0x60, multiplexor, [0; 4]),
+            Answer::InitiateDownload { multiplexor } => layout::message(0x60, multiplexor, [0; 4]),
             Answer::DownloadSegment { toggle } => making::alone(0x20 + 16 * toggle.bit()),
             Answer::InitiateUpload {
                 multiplexor,
                 transfer,
-            } => making::initiate(0x40, multiplexor, transfer),
-            Answer::UploadSegment { toggle, data, last } => making::segment(toggle, data, last),
+            } => Initiate::Upload.message(multiplexor, transfer),
+            Answer::UploadSegment(segment) => segment.to_bytes(),
             Answer::InitiateBlockDownload {
                 multiplexor,
                 crc,
                 block_size,
-            } => making::message(0xa0 + 4 * crc.bit(), multiplexor, [block_size, 0, 0, 0]),
+            } => layout::message(0xa0 + 4 * crc.bit(), multiplexor, [block_size, 0, 0, 0]),
             Answer::AcknowledgeBlock {
                 last_kept,
                 block_size,
             } => [0xa2, last_kept, block_size, 0, 0, 0, 0, 0],
             Answer::EndBlockDownload => making::alone(0xa1),
-            Answer::Abort { multiplexor, code } => making::abort(multiplexor, code),
+            Answer::Abort { multiplexor, code } => layout::abort(multiplexor, code),
         }
     }
 
@@ -85,20 +81,20 @@ impl Answer {
         ensures { option_map shown_answer result ≡ answer_in bytes }
     {
         match bytes[0] / 32 {
-            0 => Some(segment(bytes)),
+            0 => Some(Answer::UploadSegment(Segment::from_bytes(bytes))),
             1 => Some(Answer::DownloadSegment {
                 toggle: reading::toggle(bytes),
             }),
             2 => Some(Answer::InitiateUpload {
-                multiplexor: reading::multiplexor(bytes),
-                transfer: reading::transfer(bytes),
+                multiplexor: layout::multiplexor(bytes),
+                transfer: Transfer::from_frame(bytes),
             }),
             3 => Some(Answer::InitiateDownload {
-                multiplexor: reading::multiplexor(bytes),
+                multiplexor: layout::multiplexor(bytes),
             }),
             4 => Some(Answer::Abort {
-                multiplexor: reading::multiplexor(bytes),
-                code: reading::code(bytes),
+                multiplexor: layout::multiplexor(bytes),
+                code: layout::abort_code(bytes),
             }),
             5 => match bytes[0] % 4 {
                 0 => Some(block_started(bytes)),
@@ -121,23 +117,12 @@ impl Answer {
     }
 }
 
-/// A segment by its bytes.
-fn segment(bytes: [u8; 8]) -> Answer
-    ensures { shown_answer result ≡ upload_segment_in bytes }
-{
-    Answer::UploadSegment {
-        toggle: reading::toggle(bytes),
-        data: reading::segment_data(bytes),
-        last: reading::last(bytes),
-    }
-}
-
 /// The answer to the start of a block write by its bytes.
 fn block_started(bytes: [u8; 8]) -> Answer
     ensures { shown_answer result ≡ block_started_in bytes }
 {
     Answer::InitiateBlockDownload {
-        multiplexor: reading::multiplexor(bytes),
+        multiplexor: layout::multiplexor(bytes),
         crc: reading::crc_offer(bytes),
         block_size: bytes[4],
     }

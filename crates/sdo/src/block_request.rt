@@ -3,12 +3,13 @@ ghost use Rattle.std.specs.Prelude.{◌≡◌};
 ghost use Rattle.sdo.specs.Frames.{block_request_frame};
 ghost use Rattle.sdo.specs.BlockRequests.{block_request_bytes, block_request_in, shown_block_request, block_segment_in};
 
-use crate::sequence_number::SequenceNumber;
-use crate::{making, reading};
+use crate::making;
+use crate::ranged::SequenceNumber;
+use wire::layout;
 use wire::{AbortCode, Frame, Identifier, Multiplexor, NodeNumber};
 
 /// A segment of a sub-block, or an abort.
-#[derive(Clone, Copy, PartialEq)]
+#[derive(Clone, Copy, PartialEq, Eq, Debug)]
 pub enum BlockRequest {
     /// Seven bytes, of which a last segment may leave some unused.
     Segment {
@@ -30,10 +31,10 @@ impl BlockRequest {
     {
         match *self {
             BlockRequest::Segment { last, number, data } => making::full(
-                128 * last as u8 + number.number,
+                128 * last as u8 + number.number(),
                 data,
             ),
-            BlockRequest::Abort { multiplexor, code } => making::abort(multiplexor, code),
+            BlockRequest::Abort { multiplexor, code } => layout::abort(multiplexor, code),
         }
     }
 
@@ -43,8 +44,8 @@ impl BlockRequest {
     {
         if bytes[0] == 0x80 {
             BlockRequest::Abort {
-                multiplexor: reading::multiplexor(bytes),
-                code: reading::code(bytes),
+                multiplexor: layout::multiplexor(bytes),
+                code: layout::abort_code(bytes),
             }
         } else {
             segment(bytes)
@@ -69,9 +70,7 @@ fn segment(bytes: [u8; 8]) -> BlockRequest
     let [command, a, b, c, d, e, f, g] = bytes;
     BlockRequest::Segment {
         last: command / 128 % 2 == 1,
-        number: SequenceNumber {
-            number: command % 128,
-        },
+        number: SequenceNumber::wrapped(command),
         data: [a, b, c, d, e, f, g],
     }
 }

@@ -3,7 +3,7 @@ ghost use Rattle.std.specs.Prelude.{◌≡◌, ◌≤◌};
 ghost use Rattle.sdo.specs.Blocks.{offer_bit};
 
 /// A CRC is offered, or none.
-#[derive(Clone, Copy, PartialEq)]
+#[derive(Clone, Copy, PartialEq, Eq, Debug)]
 pub enum CrcOffer {
     Offered,
     NotOffered,

@@ -3,30 +3,25 @@
 
 mod answer;
 mod block_request;
-mod block_size;
 mod crc_offer;
-mod expedited;
 mod making;
+mod ranged;
 mod reading;
 mod request;
 mod round_trips;
 mod segment_data;
+mod segment_frame;
 mod segments;
-mod sequence_number;
 mod toggle;
-mod transfer;
-mod unused_bytes;
 
 pub use answer::Answer;
 pub use block_request::BlockRequest;
-pub use block_size::BlockSize;
 pub use crc_offer::CrcOffer;
-pub use expedited::ExpeditedData;
+pub use ranged::{BlockSize, Ranged, SequenceNumber, UnusedBytes};
 pub use request::Request;
 pub use round_trips::messages_read_back;
 pub use segment_data::SegmentData;
+pub use segment_frame::Segment;
 pub use segments::{segment, segments_join};
-pub use sequence_number::SequenceNumber;
 pub use toggle::Toggle;
-pub use transfer::Transfer;
-pub use unused_bytes::UnusedBytes;
+pub use wire::{ExpeditedData, Transfer};

@@ -2,18 +2,19 @@
 ghost use Rattle.std.specs.Prelude.{◌≡◌};
 ghost use Rattle.std.specs.Option.{option_map};
 ghost use Rattle.sdo.specs.Frames.{request_frame};
-ghost use Rattle.sdo.specs.Requests.{request_bytes, request_in, shown_request, download_segment_in, block_start_in, block_end_in, block_download_in};
+ghost use Rattle.sdo.specs.Blocks.{end_bytes};
+ghost use Rattle.sdo.specs.Requests.{request_bytes, request_in, shown_request, block_start_in, block_end_in, block_download_in};
 
 use crate::crc_offer::CrcOffer;
-use crate::segment_data::SegmentData;
+use crate::ranged::UnusedBytes;
+use crate::segment_frame::Segment;
 use crate::toggle::Toggle;
-use crate::transfer::Transfer;
-use crate::unused_bytes::UnusedBytes;
 use crate::{making, reading};
-use wire::{AbortCode, Frame, Identifier, Multiplexor, NodeNumber};
+use wire::layout::{self, Initiate};
+use wire::{AbortCode, Frame, Identifier, Multiplexor, NodeNumber, Transfer};
 
 /// A request, by the CiA 301 name of its protocol.
-#[derive(Clone, Copy, PartialEq)]
+#[derive(Clone, Copy, PartialEq, Eq, Debug)]
 pub enum Request {
     /// The start of a write.
     InitiateDownload {
@@ -21,11 +22,7 @@ pub enum Request {
         transfer: Transfer,
     },
     /// A segment of a value that is written.
-    DownloadSegment {
-        toggle: Toggle,
-        data: SegmentData,
-        last: bool,
-    },
+    DownloadSegment(Segment),
     /// The start of a read.
     InitiateUpload {
         multiplexor: Multiplexor,
@@ -61,21 +58,21 @@ impl Request {
             Request::InitiateDownload {
                 multiplexor,
                 transfer,
-            } => making::initiate(0x20, multiplexor, transfer),
-            Request::DownloadSegment { toggle, data, last } => making::segment(toggle, data, last),
-            Request::InitiateUpload { multiplexor } => making::message(0x40, multiplexor, [0; 4]),
+            } => Initiate::Download.message(multiplexor, transfer),
+            Request::DownloadSegment(segment) => segment.to_bytes(),
+            Request::InitiateUpload { multiplexor } => layout::message(0x40, multiplexor, [0; 4]),
             Request::UploadSegment { toggle } => making::alone(0x60 + 16 * toggle.bit()),
             Request::InitiateBlockDownload {
                 multiplexor,
                 crc,
                 size,
-            } => making::message(
+            } => layout::message(
                 0xc0 + 4 * crc.bit() + 2 * size.is_some() as u8,
                 multiplexor,
                 size.unwrap_or(0).to_le_bytes(),
             ),
-            Request::EndBlockDownload { unused, crc } => making::block_end(unused, crc),
-            Request::Abort { multiplexor, code } => making::abort(multiplexor, code),
+            Request::EndBlockDownload { unused, crc } => block_end_bytes(unused, crc),
+            Request::Abort { multiplexor, code } => layout::abort(multiplexor, code),
         }
     }
 
@@ -84,20 +81,20 @@ impl Request {
         ensures { option_map shown_request result ≡ request_in bytes }
     {
         match bytes[0] / 32 {
-            0 => Some(segment(bytes)),
+            0 => Some(Request::DownloadSegment(Segment::from_bytes(bytes))),
             1 => Some(Request::InitiateDownload {
-                multiplexor: reading::multiplexor(bytes),
-                transfer: reading::transfer(bytes),
+                multiplexor: layout::multiplexor(bytes),
+                transfer: Transfer::from_frame(bytes),
             }),
             2 => Some(Request::InitiateUpload {
-                multiplexor: reading::multiplexor(bytes),
+                multiplexor: layout::multiplexor(bytes),
             }),
             3 => Some(Request::UploadSegment {
                 toggle: reading::toggle(bytes),
             }),
             4 => Some(Request::Abort {
-                multiplexor: reading::multiplexor(bytes),
-                code: reading::code(bytes),
+                multiplexor: layout::multiplexor(bytes),
+                code: layout::abort_code(bytes),
             }),
             6 => Some(block_download(bytes)),
             _ => None,
@@ -112,17 +109,6 @@ impl Request {
             identifier: Identifier::of_requests(node),
             bytes: self.to_bytes(),
         }
-    }
-}
-
-/// A segment by its bytes.
-fn segment(bytes: [u8; 8]) -> Request
-    ensures { shown_request result ≡ download_segment_in bytes }
-{
-    Request::DownloadSegment {
-        toggle: reading::toggle(bytes),
-        data: reading::segment_data(bytes),
-        last: reading::last(bytes),
     }
 }
 
@@ -142,12 +128,12 @@ fn block_start(bytes: [u8; 8]) -> Request
     ensures { shown_request result ≡ block_start_in bytes }
 {
     let size = if bytes[0] / 2 % 2 == 1 {
-        Some(reading::number(bytes))
+        Some(layout::number(bytes))
     } else {
         None
     };
     Request::InitiateBlockDownload {
-        multiplexor: reading::multiplexor(bytes),
+        multiplexor: layout::multiplexor(bytes),
         crc: reading::crc_offer(bytes),
         size,
     }
@@ -158,9 +144,15 @@ fn block_end(bytes: [u8; 8]) -> Request
     ensures { shown_request result ≡ block_end_in bytes }
 {
     Request::EndBlockDownload {
-        unused: UnusedBytes {
-            number: bytes[0] / 4 % 8,
-        },
+        unused: UnusedBytes::wrapped(bytes[0] / 4),
         crc: u16::from_le_bytes([bytes[1], bytes[2]]),
     }
+}
+
+/// The end of a block write.
+fn block_end_bytes(unused: UnusedBytes, crc: u16) -> [u8; 8]
+    ensures { result ≡ end_bytes unused.number crc }
+{
+    let [low, high] = crc.to_le_bytes();
+    [0xc1 + 4 * unused.number(), low, high, 0, 0, 0, 0, 0]
 }

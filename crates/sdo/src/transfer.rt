@@ -1,9 +1,0 @@
-//! How a value comes across (CiA 301, 7.2.4.3: the bits e, s and n of an initiate and its field d).
-use crate::expedited::ExpeditedData;
-
-/// The value at once in the start of its transfer, or in segments to come.
-#[derive(Clone, Copy, PartialEq)]
-pub enum Transfer {
-    Expedited { data: ExpeditedData },
-    Segmented { size: Option<u32> },
-}
