@@ -5,8 +5,7 @@ ghost use Rattle.sdo.specs.BlockRequests.{block_request_bytes, block_request_in,
 
 use crate::making;
 use crate::ranged::SequenceNumber;
-use wire::layout;
-use wire::{AbortCode, Frame, Identifier, Multiplexor, NodeNumber};
+use wire::{AbortCode, Frame, Identifier, Multiplexor, NodeNumber, layout};
 
 /// A segment of a sub-block, or an abort.
 #[derive(Clone, Copy, PartialEq, Eq, Debug)]

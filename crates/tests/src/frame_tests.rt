@@ -116,7 +116,7 @@ fn aborts_carry_listed_and_other_codes(rt: HostRuntime) {
         Request::from_bytes([0x80, 0, 0x20, 1, 0x43, 0, 4, 6]),
         Some(odd)
     );
-    assert_eq!(rt; AbortCode::from_number(0x08000000), AbortCode::GeneralError);
+    assert_eq!(rt; AbortCode::from(0x08000000), AbortCode::GeneralError);
     assert_eq!(rt; AbortCode::Other(1).words(), "code not listed");
 }
 

@@ -1,5 +1,5 @@
 -- What a master asks, and its eight bytes.
-use Rattle.std.specs.Prelude.{ℕ, ◌+◌, cond, List, ◌∷◌, ◌++◌, Some, None, Option, ◌==◌}
+use Rattle.std.specs.Prelude.{ℕ, cond, List, ◌∷◌, ◌++◌, Some, None, Option, ◌==◌}
 use Rattle.wire.specs.declared.layout.Initiate.TheVariants.{Download}
 use Rattle.wire.specs.Fields.{kind, multiplexor_bytes, multiplexor_in, number_bytes, abort_bytes, abort_code_in}
 use Rattle.wire.specs.Transfers.{Transfer, initiate_bytes, transfer_in, shown_transfer}
