@@ -1,6 +1,6 @@
 //! Segments and blocks as CiA 301 shows them, and what no correct partner sends.
 use sdo::{
-    Answer, BlockRequest, BlockSize, CrcOffer, ExpeditedData, Request, SegmentData, SequenceNumber,
+    Answer, BlockRequest, BlockSize, CrcOffer, ExpeditedData, Request, Segment, SegmentData, SequenceNumber,
     Toggle, Transfer, UnusedBytes, segment,
 };
 use std::process::Abort;
@@ -22,11 +22,11 @@ fn data(value: &[u8]) -> Result<SegmentData, Fail> {
 
 /// Checks that these bytes are a last write segment, with toggle 1, of that value.
 fn check_last(rt: &impl Abort, bytes: [u8; 8], value: &[u8]) -> Result<(), Fail> {
-    let segment = Request::DownloadSegment {
+    let segment = Request::DownloadSegment(Segment {
         toggle: Toggle::One,
-        data: data(value)?,
+        bytes: data(value)?,
         last: true,
-    };
+    });
     assert!(rt; Request::from_bytes(bytes) == Some(segment));
     Ok(())
 }
@@ -117,17 +117,17 @@ fn a_last_segment_with_number_0_is_sent_as_an_abort(rt: HostRuntime) -> Result<(
 
 #[test]
 fn segments_as_they_are_sent(rt: HostRuntime) -> Result<(), Fail> {
-    let write = Request::DownloadSegment {
+    let write = Request::DownloadSegment(Segment {
         toggle: Toggle::One,
-        data: data(&[1, 2])?,
+        bytes: data(&[1, 2])?,
         last: false,
-    };
+    });
     assert_eq!(rt; write.to_bytes(), [0x1a, 1, 2, 0, 0, 0, 0, 0]);
-    let given = Answer::UploadSegment {
+    let given = Answer::UploadSegment(Segment {
         toggle: Toggle::Zero,
-        data: data(b"loader")?,
+        bytes: data(b"loader")?,
         last: true,
-    };
+    });
     assert_eq!(rt;
         given.to_bytes(),
         [0x03, 0x6c, 0x6f, 0x61, 0x64, 0x65, 0x72, 0]
@@ -145,11 +145,11 @@ fn bytes_behind_a_segments_data_are_dropped(rt: HostRuntime) -> Result<(), Fail>
 #[test]
 fn a_segment_may_have_no_bytes(rt: HostRuntime) -> Result<(), Fail> {
     check_last(&rt, [0x1f, 1, 2, 3, 4, 5, 6, 7], &[])?;
-    let given = Answer::UploadSegment {
+    let given = Answer::UploadSegment(Segment {
         toggle: Toggle::Zero,
-        data: data(&[])?,
+        bytes: data(&[])?,
         last: false,
-    };
+    });
     assert!(rt; Answer::from_bytes([0x0e, 1, 2, 3, 4, 5, 6, 7]) == Some(given));
     Ok(())
 }
