@@ -2,3 +2,4 @@ pub mod Meanings
 pub mod Queues
 pub mod Patterns
 pub mod Drops
+pub mod Lends

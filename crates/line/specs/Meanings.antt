@@ -17,8 +17,8 @@ waiting Master m = m.to_master
 
 -- the same line with other frames waiting for an end
 abbrev pub with_waiting : End → List Frame → Meaning → Meaning
-with_waiting Node fs m = record { to_node = fs; to_master = m.to_master; lost = m.lost }
-with_waiting Master fs m = record { to_node = m.to_node; to_master = fs; lost = m.lost }
+with_waiting Node fs m = record m { to_node = fs }
+with_waiting Master fs m = record m { to_master = fs }
 
 -- some frames and one more: behind all others, or lost
 abbrev pub added : {A : Type 0} → A → Bool → List A → List A
@@ -27,7 +27,7 @@ added f false fs = fs ++ f ∷ []
 
 -- a frame sent, and lost or not
 abbrev pub sent : End → Frame → Bool → Meaning → Meaning
-sent to f true m = record { to_node = m.to_node; to_master = m.to_master; lost = true }
+sent to f true m = record m { lost = true }
 sent to f false m = with_waiting to (added f false (waiting to m)) m
 
 -- the first of some frames, and those behind it

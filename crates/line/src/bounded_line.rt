@@ -32,6 +32,10 @@ impl<const ROOM: usize> Model for BoundedLine<ROOM> {
 }
 
 impl<const ROOM: usize> BoundedLine<ROOM> {
+    ghost use Rattle.std.specs.Borrow.{sem};
+    ghost use Rattle.line.specs.Meanings.{waiting};
+    ghost use Rattle.line.specs.Lends.{lends_queue};
+
     /// A line on which nothing waits and nothing was lost.
     pub fn new() -> Self
         ensures { result ≡ quieted }
@@ -46,6 +50,17 @@ impl<const ROOM: usize> BoundedLine<ROOM> {
             lost: false,
         }
     }
+
+    /// The frames that wait for an end.
+    fn queue(&mut self, end: End) -> &mut Queue<Frame, ROOM>
+        ensures* writes_back { sem 𝓛 (lends_queue ROOM.row self.entry end result) }
+        ensures waiting { result.now ≡ waiting end self.old }
+    {
+        match end {
+            End::Node => &mut self.to_node,
+            End::Master => &mut self.to_master,
+        }
+    }
 }
 
 /// A frame is lost exactly where `ROOM` wait already.
@@ -55,18 +70,11 @@ impl<const ROOM: usize> Line for BoundedLine<ROOM> {
     fn send(&mut self, to: End, frame: Frame)
         ensures exactly { self.new ≡ sent_within ROOM to frame self.old }
     {
-        let added = match to {
-            End::Node => self.to_node.add(frame),
-            End::Master => self.to_master.add(frame),
-        };
-        self.lost |= added.is_err();
+        self.lost |= self.queue(to).add(frame).is_err();
     }
 
     fn take(&mut self, end: End) -> Option<Frame> {
-        match end {
-            End::Node => self.to_node.take(),
-            End::Master => self.to_master.take(),
-        }
+        self.queue(end).take()
     }
 
     fn quiet(&mut self) {

@@ -76,11 +76,7 @@ fn a_mailbox_keeps_the_first_each_way(rt: HostRuntime) {
 fn one_bit_loses_the_first_and_every_64th_after(rt: HostRuntime) {
     let mut line = DropLayer::new(MailboxLine::new(), 0x0000_0000_0000_0001);
     for number in 0..200u8 {
-        let kept = if number % 64 == 0 {
-            None
-        } else {
-            Some(numbered(number))
-        };
+        let kept = (number % 64 != 0).then_some(numbered(number));
         assert_eq!(rt; carried(&mut line, number), kept);
     }
 }

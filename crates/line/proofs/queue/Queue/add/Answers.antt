@@ -1,4 +1,4 @@
-use Rattle.std.proofs.Common.{◌≡◌, ◌+◌, ◌<◌, false, List, [], ◌∷◌, ◌++◌, length, sym, ap, set, ◌∙◌, arith, rules}
+use Rattle.std.proofs.Common.{◌≡◌, ◌+◌, ◌<◌, false, List, [], ◌∷◌, ◌++◌, length, sym, ap, set, ◌∙◌, arith}
 use Rattle.std.proofs.lemmas.Bool.{leb-false}
 use Rattle.line.specs.Meanings.{full}
 use Rattle.line.specs.Queues.{held}
@@ -14,8 +14,8 @@ returns-clause-after g c =
     let counted = held-length g.row.ROOM q.first q.frames c.self.told c.self.invariant.0 q.count c.self.invariant.1 in
     let some : q.count < g.row.ROOM = omega (arith, leb-false g.row.ROOM (length c.args.self.now) free) in
     let last : held q.first (q.count + 1) (set q.frames c.if-self-to_end.place c.args.frame) ≡ held q.first q.count q.frames ++ c.args.frame ∷ [] =
-        elim c.if-self-to_end.branch [
-          | then-self-to_end w ↦ rw w.place-is (stored_before_end g.row.ROOM q.first q.frames c.self.told c.self.invariant.0 q.count c.args.frame w.if-self-to_end.true)
-          | else-self-to_end w ↦ rw w.place-is (stored_past_end g.row.ROOM q.first q.frames c.self.told c.self.invariant.0 q.count c.args.frame w.if-self-to_end.false some)
-        ] in
+    elim c.if-self-to_end.branch [
+      | then-self-to_end w ↦ rw w.place-is (stored_before_end g.row.ROOM q.first q.frames c.self.told c.self.invariant.0 q.count c.args.frame w.if-self-to_end.true)
+      | else-self-to_end w ↦ rw w.place-is (stored_past_end g.row.ROOM q.first q.frames c.self.told c.self.invariant.0 q.count c.args.frame w.if-self-to_end.false some)
+    ] in
     rw free (last ∙ ap (λ (frames : List g.row.T.Denot). frames ++ c.args.frame ∷ []) c.self.view_is)
