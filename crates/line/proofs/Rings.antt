@@ -1,7 +1,7 @@
 -- A ring read from its first place on: a frame stored behind the others comes last, the first taken leaves the others.
 use Rattle.std.proofs.Common.{◌≡◌, ℕ, zero, suc, ◌+◌, ◌-◌, ◌%◌, ◌<◌, ◌≤◌, List, [], ◌∷◌, ◌++◌, length, get_or, take, drop, set, ap, ◌∙◌, ⊎_elim, mod-eq_of_lt, arith, length-append, length-drop, length-take}
 use Rattle.std.proofs.Math.Seq.{take-set-lt}
-use native.Mathlib.Nat.{mod_self}
+use Rattle.std.proofs.Math.Nat.{mod_self}
 use Rattle.std.proofs.lemmas.List.{append_assoc, append-nil, drop_all, drop_more, drop-set-add, drop-set-lt, set-append_left, set-append_right, take_all, take-append-le, take_more, take_more_set, take-set-le}
 use Rattle.std.proofs.lemmas.Bool.{cases_lt}
 use Rattle.line.specs.Queues.{read_from, held}

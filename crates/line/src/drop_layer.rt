@@ -19,7 +19,7 @@ pub struct DropLayer<L: Line> {
 
 impl<L: Line> DropLayer<L> {
     /// A layer over a line that has lost nothing itself. The bits of the pattern decide in turn, from the lowest up and round.
-    pub fn new(line: L, pattern: u64) -> DropLayer<L>
+    pub fn new(line: L, pattern: u64) -> Self
         ensures below { result.line ≡ line }
         ensures starts { result.pattern ≡ pattern }
         ensures unmarked { result.lost ≡ false }

@@ -1,5 +1,5 @@
 //! What the lines keep, lose and hand out.
-use line::{DropLayer, End, Line, MailboxLine, MemoryLine};
+use line::{BoundedLine, DropLayer, End, Line, MailboxLine, MemoryLine};
 use wire::{Frame, Identifier, NodeNumber};
 
 /// A frame that is told from others by a number.
@@ -70,6 +70,25 @@ fn a_mailbox_keeps_the_first_each_way(rt: HostRuntime) {
     assert_eq!(rt; line.take(End::Master), Some(numbered(3)));
     assert_eq!(rt; line.take(End::Master), None);
     assert_eq!(rt; carried(&mut line, 5), Some(numbered(5)));
+}
+
+#[test]
+fn a_line_without_room_loses_every_frame(rt: HostRuntime) {
+    let mut line: BoundedLine<0> = BoundedLine::new();
+    assert_eq!(rt; carried(&mut line, 1), None);
+    assert_eq!(rt; carried(&mut line, 2), None);
+}
+
+#[test]
+fn a_line_with_room_for_three_keeps_three(rt: HostRuntime) {
+    let mut line: BoundedLine<3> = BoundedLine::new();
+    for number in 0..5u8 {
+        line.send(End::Master, numbered(number));
+    }
+    for number in 0..3u8 {
+        assert_eq!(rt; line.take(End::Master), Some(numbered(number)));
+    }
+    assert_eq!(rt; line.take(End::Master), None);
 }
 
 #[test]
