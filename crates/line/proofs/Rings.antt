@@ -1,4 +1,4 @@
--- A ring read from its first place on: a frame stored behind the others comes last, the first taken leaves the others.
+-- A ring read from its first place on: an item stored behind the others comes last, the first taken leaves the others.
 use Rattle.std.proofs.Common.{◌≡◌, ℕ, zero, suc, ◌+◌, ◌-◌, ◌%◌, ◌<◌, ◌≤◌, List, [], ◌∷◌, ◌++◌, length, get_or, take, drop, set, ap, ◌∙◌, ⊎_elim, mod-eq_of_lt, arith, length-append, length-drop, length-take}
 use Rattle.std.proofs.Math.Seq.{take-set-lt}
 use Rattle.std.proofs.Math.Nat.{mod_self}

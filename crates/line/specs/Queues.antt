@@ -3,8 +3,8 @@ use Rattle.std.specs.Prelude.{ℕ, List, ◌++◌, take, drop}
 
 -- a ring of places, read from one of them on and round
 abbrev pub read_from : {A : Type 0} → ℕ → List A → List A
-read_from first frames = drop first frames ++ take first frames
+read_from first items = drop first items ++ take first items
 
--- so many frames of a ring, the first in first
+-- so many items of a ring, the first in first
 abbrev pub held : {A : Type 0} → ℕ → ℕ → List A → List A
-held first count frames = take count (read_from first frames)
+held first count items = take count (read_from first items)

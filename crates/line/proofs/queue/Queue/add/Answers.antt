@@ -11,11 +11,11 @@ returns-clause-after g c =
     let q = c.self.inside in
     let free : full g.row.ROOM c.args.self.now ≡ false = sym c.is_full.ensures ∙ c.if-is_full.false in
     let waiting = ap length c.self.view_is in
-    let counted = held-length g.row.ROOM q.first q.frames c.self.told c.self.invariant.0 q.count c.self.invariant.1 in
+    let counted = held-length g.row.ROOM q.first q.items c.self.told c.self.invariant.0 q.count c.self.invariant.1 in
     let some : q.count < g.row.ROOM = omega (arith, leb-false g.row.ROOM (length c.args.self.now) free) in
-    let last : held q.first (q.count + 1) (set q.frames c.if-self-to_end.place c.args.frame) ≡ held q.first q.count q.frames ++ c.args.frame ∷ [] =
+    let last : held q.first (q.count + 1) (set q.items c.if-self-to_end.place c.args.item) ≡ held q.first q.count q.items ++ c.args.item ∷ [] =
     elim c.if-self-to_end.branch [
-      | then-self-to_end w ↦ rw w.place-is (stored_before_end g.row.ROOM q.first q.frames c.self.told c.self.invariant.0 q.count c.args.frame w.if-self-to_end.true)
-      | else-self-to_end w ↦ rw w.place-is (stored_past_end g.row.ROOM q.first q.frames c.self.told c.self.invariant.0 q.count c.args.frame w.if-self-to_end.false some)
+      | then-self-to_end w ↦ rw w.place-is (stored_before_end g.row.ROOM q.first q.items c.self.told c.self.invariant.0 q.count c.args.item w.if-self-to_end.true)
+      | else-self-to_end w ↦ rw w.place-is (stored_past_end g.row.ROOM q.first q.items c.self.told c.self.invariant.0 q.count c.args.item w.if-self-to_end.false some)
     ] in
-    rw free (last ∙ ap (λ (frames : List g.row.T.Denot). frames ++ c.args.frame ∷ []) c.self.view_is)
+    rw free (last ∙ ap (λ (items : List g.row.T.Denot). items ++ c.args.item ∷ []) c.self.view_is)
