@@ -22,6 +22,5 @@ never_short d m n l room h = by (read_verdict d m) h
     by : (w : Option AbortCode) → Err ShortBuffer ≡ copied_or (copy_refusal w n (length (value_at d m))) (length (value_at d m)) → ⊥
     by None e =
         let long = le-ltb n (length (value_at d m)) (omega (arith, value-bounded d m l)) in
-        let ok : Err ShortBuffer ≡ Ok (length (value_at d m)) = rw long at e in
-        let z : ◌≡◌ {A = ℕ} 0 1 = cc in omega arith
-    by (Some c) e = let z : ◌≡◌ {A = ℕ} 0 1 = cc in omega arith
+        let ok : Err ShortBuffer ≡ Ok (length (value_at d m)) = rw long at e in cc
+    by (Some c) e = cc

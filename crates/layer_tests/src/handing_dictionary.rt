@@ -12,7 +12,7 @@ pub struct HandingDictionary<D: Writable> {
 
 impl<D: Writable> HandingDictionary<D> {
     /// A layer over a dictionary.
-    pub fn new(dictionary: D) -> HandingDictionary<D>
+    pub fn new(dictionary: D) -> Self
         ensures { result.dictionary ≡ dictionary }
     {
         HandingDictionary { dictionary }

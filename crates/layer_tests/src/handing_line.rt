@@ -12,7 +12,7 @@ pub struct HandingLine<L: Line> {
 
 impl<L: Line> HandingLine<L> {
     /// A layer over a line.
-    pub fn new(line: L) -> HandingLine<L>
+    pub fn new(line: L) -> Self
         ensures { result.line ≡ line }
     {
         HandingLine { line }

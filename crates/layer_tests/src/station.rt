@@ -24,7 +24,7 @@ pub struct Station<L: Line, D: Writable> {
 
 impl<L: Line, D: Writable> Station<L, D> {
     /// The owner of a line and a dictionary.
-    pub fn new(line: L, dictionary: D) -> Station<L, D>
+    pub fn new(line: L, dictionary: D) -> Self
         ensures line { result.line ≡ line }
         ensures dictionary { result.dictionary ≡ dictionary }
     {
@@ -61,6 +61,7 @@ impl<L: Line, D: Writable> Station<L, D> {
         ensures { result ≡ length_or (read_verdict (D.Readable.meaning self.now.dictionary) multiplexor) (length (value_at (D.Readable.meaning self.now.dictionary) multiplexor)) }
     {
         let mut buffer = [0; LONGEST];
+        // By arms: the proof rules the last one out by its name, and a closure in `map_err` is no shorter.
         match self.dictionary.copy_value(multiplexor, &mut buffer) {
             Ok(length) => Ok(length),
             Err(CopyRefusal::Verdict(code)) => Err(code),

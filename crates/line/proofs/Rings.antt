@@ -1,64 +1,62 @@
--- A ring read from its first place on: a frame stored behind the others comes last, the first taken leaves the others.
-use Rattle.std.proofs.Common.{◌≡◌, ℕ, zero, suc, ◌+◌, ◌-◌, ◌%◌, ◌<◌, ◌≤◌, List, [], ◌∷◌, ◌++◌, length, get_or, take, drop, set, ap, ◌∙◌, ⊎_elim, arith, length-append, length-drop, length-take}
-use lib.Seq.{take-set-lt}
+-- A ring read from its first place on: an item stored behind the others comes last, the first taken leaves the others.
+use Rattle.std.proofs.Common.{◌≡◌, ℕ, zero, suc, ◌+◌, ◌-◌, ◌%◌, ◌<◌, ◌≤◌, List, [], ◌∷◌, ◌++◌, length, get_or, take, drop, set, ap, ◌∙◌, ⊎_elim, mod-eq_of_lt, arith, length-append, length-drop, length-take}
+use Rattle.std.proofs.Math.Seq.{take-set-lt}
+use Rattle.std.proofs.Math.Nat.{mod_self}
 use Rattle.std.proofs.lemmas.List.{append_assoc, append-nil, drop_all, drop_more, drop-set-add, drop-set-lt, set-append_left, set-append_right, take_all, take-append-le, take_more, take_more_set, take-set-le}
 use Rattle.std.proofs.lemmas.Bool.{cases_lt}
-use Rattle.wire.specs.declared.frame.Frame.{Frame}
 use Rattle.line.specs.Queues.{read_from, held}
-use Rattle.line.specs.declared.queue.Queue.{Queue}
 
-pub held-length : (q : Queue) → length (held q) ≡ q.count
-held-length q = simp (length-take, length-append, length-drop) (omega arith)
+module _ {A : Type 0} (room first : ℕ) (xs : List A) (size : length xs ≡ room) (within : first ≤ room - 1) where
+  pub held-length : (count : ℕ) → count ≤ room → length (held first count xs) ≡ count
+  held-length count few = simp (length-take, length-append, length-drop) (omega arith)
 
-module _ (fs : List Frame) (first : ℕ) (size : length fs ≡ 130) (within : first < 130) where
-  -- the place behind `count` frames, before the end of the ring or past it
-  read_set : (count : ℕ) (f : Frame) → count < 130 → read_from first (set fs ((first + count) % 130) f) ≡ set (read_from first fs) count f
-  read_set count f room =
-      ⊎_elim
-      (λ (h : first + count < 130).
-      let place : (first + count) % 130 ≡ first + count = omega arith in
-      let a = drop-set-add first fs count f in
-      let b = take-set-le first fs (first + count) f (omega arith) in
-      let s = set-append_left (drop first fs) (take first fs) count f (simp length-drop (omega arith)) in
-      cc)
-      (λ (h : 130 ≤ first + count).
-      let place : (first + count) % 130 ≡ first + count - 130 = omega arith in
-      let a = drop-set-lt first fs (first + count - 130) f (omega arith) in
-      let b = take-set-lt first fs (first + count - 130) f (omega arith) in
-      let s = set-append_right (drop first fs) (take first fs) (130 - first) count f (simp length-drop (omega arith)) (omega arith) in
-      let i : count - (130 - first) ≡ first + count - 130 = omega arith in
-      cc)
-      (cases_lt (first + count) 130)
+  stored : (count place : ℕ) (x : A) → count < room → read_from first (set xs place x) ≡ set (read_from first xs) count x → held first (count + 1) (set xs place x) ≡ held first count xs ++ x ∷ []
+  stored count place x some written =
+      ap (take (count + 1)) written
+      ∙ take_more_set (read_from first xs) count x (simp (length-append, length-drop, length-take) (omega arith))
 
-  pub stored_last : (count : ℕ) (f : Frame) → count < 130 → take (count + 1) (read_from first (set fs ((first + count) % 130) f)) ≡ take count (read_from first fs) ++ f ∷ []
-  stored_last count f room =
-      ap (take (count + 1)) (read_set count f room)
-      ∙ take_more_set (read_from first fs) count f (simp (length-append, length-drop, length-take) (omega arith))
+  -- a place before the end of the ring
+  pub stored_before_end : (count : ℕ) (x : A) → count < room - first → held first (count + 1) (set xs (first + count) x) ≡ held first count xs ++ x ∷ []
+  stored_before_end count x here =
+      let a = drop-set-add first xs count x in
+      let b = take-set-le first xs (first + count) x (omega arith) in
+      let s = set-append_left (drop first xs) (take first xs) count x (simp length-drop (omega arith)) in
+      stored count (first + count) x (omega arith) cc
+
+  -- a place past it, from the start on
+  pub stored_past_end : (count : ℕ) (x : A) → room - first ≤ count → count < room → held first (count + 1) (set xs (count - (room - first)) x) ≡ held first count xs ++ x ∷ []
+  stored_past_end count x past some =
+      let place = count - (room - first) in
+      let a = drop-set-lt first xs place x (omega arith) in
+      let b = take-set-lt first xs place x (omega arith) in
+      let s = set-append_right (drop first xs) (take first xs) (room - first) count x (simp length-drop (omega arith)) past in
+      stored count place x some cc
 
   -- the next place is behind the first, or the start of the ring
-  read_round : read_from ((first + 1) % 130) fs ≡ read_from (first + 1) fs
-  read_round =
+  read_round : 0 < room → read_from ((first + 1) % room) xs ≡ read_from (first + 1) xs
+  read_round some =
       ⊎_elim
-      (λ (h : first + 1 < 130).
-      let place : (first + 1) % 130 ≡ first + 1 = omega arith in
+      (λ (h : first + 1 < room).
+      let place : (first + 1) % room ≡ first + 1 = mod-eq_of_lt h in
       cc)
-      (λ (h : 130 ≤ first + 1).
-      let place : (first + 1) % 130 ≡ 0 = omega arith in
-      let a = drop_all (first + 1) fs (omega arith) in
-      let b = take_all (first + 1) fs (omega arith) in
-      let n = append-nil fs in
+      (λ (h : room ≤ first + 1).
+      let end : first + 1 ≡ room = omega arith in
+      let place : (first + 1) % room ≡ 0 = ap (λ (n : ℕ). n % room) end ∙ mod_self room in
+      let a = drop_all (first + 1) xs (omega arith) in
+      let b = take_all (first + 1) xs (omega arith) in
+      let n = append-nil xs in
       cc)
-      (cases_lt (first + 1) 130)
+      (cases_lt (first + 1) room)
 
-  pub first_taken : (count : ℕ) (d : Frame) → 0 < count → count ≤ 130 → take count (read_from first fs) ≡ get_or fs first d ∷ take (count - 1) (read_from ((first + 1) % 130) fs)
+  pub first_taken : (count : ℕ) (d : A) → 0 < count → count ≤ room → held first count xs ≡ get_or xs first d ∷ held ((first + 1) % room) (count - 1) xs
   first_taken zero d some few = absurd (omega arith)
   first_taken (suc n) d some few =
-      let x = get_or fs first d in
-      let others = drop (first + 1) fs ++ take first fs in
+      let x = get_or xs first d in
+      let others = drop (first + 1) xs ++ take first xs in
       let less : suc n - 1 ≡ n = omega arith in
-      let a = drop_more fs first d (omega arith) in
-      let b = take_more fs first d (omega arith) in
-      let s = append_assoc (drop (first + 1) fs) (take first fs) (x ∷ []) in
+      let a = drop_more xs first d (omega arith) in
+      let b = take_more xs first d (omega arith) in
+      let s = append_assoc (drop (first + 1) xs) (take first xs) (x ∷ []) in
       let t = take-append-le n others (x ∷ []) (simp (length-append, length-drop, length-take) (omega arith)) in
-      let begin : take (suc n) (read_from first fs) ≡ x ∷ take n others = ap (λ (front : List Frame). take (suc n) (front ++ take first fs)) a in
-      cc (read_round)
+      let begin : held first (suc n) xs ≡ x ∷ take n others = ap (λ (front : List A). take (suc n) (front ++ take first xs)) a in
+      cc (read_round (omega arith))

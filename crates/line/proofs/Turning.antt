@@ -1,7 +1,7 @@
 -- A turn of a pattern by shifts is the turn by numbers, and the bits come to the lowest place one after the other.
 use Rattle.std.proofs.Common.{◌≡◌, ℕ, zero, suc, ◌+◌, ◌-◌, ◌*◌, ◌/◌, ◌%◌, ◌^◌, ◌<◌, ◌≤◌, eqb, sym, ap, ◌∙◌, ⊎_elim, mul_assoc, arith}
-use native.Mathlib.Nat.{add-mul-div_right, add-mul-mod_self_right}
-use lib.Bits.{bit_or}
+use Rattle.std.proofs.Math.Nat.{add-mul-div_right, add-mul-mod_self_right}
+use Rattle.std.specs.Int.Bits.{bit_or}
 use Rattle.std.proofs.lemmas.Nat.{div_below, or_comm, or_shifted, pow-add, pow_pos, shr-shr}
 use Rattle.std.proofs.lemmas.Bool.{cases_lt}
 use Rattle.line.specs.Patterns.{turned, bit, BitsInTurn}

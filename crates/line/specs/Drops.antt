@@ -7,7 +7,7 @@ use Rattle.line.specs.Meanings.{Meaning, sent}
 
 -- a layer's meaning from that of the line below: the same lists, and either mark
 abbrev pub layer_shown : {L : Type 0} → (L → Meaning) → DropLayer L → Meaning
-layer_shown below d = record { to_node = (below d.line).to_node; to_master = (below d.line).to_master; lost = d.lost || (below d.line).lost }
+layer_shown below d = record (below d.line) { lost = d.lost || (below d.line).lost }
 
 -- what a send makes of the line below: nothing where the frame is dropped, else what that line makes of it
 abbrev pub passed : Bool → End → Frame → Bool → Meaning → Meaning

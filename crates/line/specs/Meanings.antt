@@ -17,25 +17,25 @@ waiting Master m = m.to_master
 
 -- the same line with other frames waiting for an end
 abbrev pub with_waiting : End → List Frame → Meaning → Meaning
-with_waiting Node fs m = record { to_node = fs; to_master = m.to_master; lost = m.lost }
-with_waiting Master fs m = record { to_node = m.to_node; to_master = fs; lost = m.lost }
+with_waiting Node fs m = record m { to_node = fs }
+with_waiting Master fs m = record m { to_master = fs }
 
 -- some frames and one more: behind all others, or lost
-abbrev pub added : Frame → Bool → List Frame → List Frame
+abbrev pub added : {A : Type 0} → A → Bool → List A → List A
 added f true fs = fs
 added f false fs = fs ++ f ∷ []
 
 -- a frame sent, and lost or not
 abbrev pub sent : End → Frame → Bool → Meaning → Meaning
-sent to f true m = record { to_node = m.to_node; to_master = m.to_master; lost = true }
+sent to f true m = record m { lost = true }
 sent to f false m = with_waiting to (added f false (waiting to m)) m
 
 -- the first of some frames, and those behind it
-abbrev pub leading : List Frame → Option Frame
+abbrev pub leading : {A : Type 0} → List A → Option A
 leading [] = None
 leading (f ∷ fs) = Some f
 
-abbrev pub following : List Frame → List Frame
+abbrev pub following : {A : Type 0} → List A → List A
 following [] = []
 following (f ∷ fs) = fs
 
@@ -51,7 +51,7 @@ abbrev pub quieted : Meaning
 quieted = record { to_node = []; to_master = []; lost = false }
 
 -- whether as many frames wait as there is room for
-abbrev pub full : ℕ → List Frame → Bool
+abbrev pub full : {A : Type 0} → ℕ → List A → Bool
 full room fs = nat_le room (length fs)
 
 -- a frame sent where there is room for some frames each way: lost exactly where all of it is taken

@@ -19,15 +19,15 @@ pub struct DropLayer<L: Line> {
 
 impl<L: Line> DropLayer<L> {
     /// A layer over a line that has lost nothing itself. The bits of the pattern decide in turn, from the lowest up and round.
-    pub fn new(line: L, pattern: u64) -> DropLayer<L>
+    pub fn new(line: L, pattern: u64) -> Self
         ensures below { result.line ≡ line }
-        ensures starts { result.pattern.bits ≡ pattern }
+        ensures starts { result.pattern ≡ pattern }
         ensures unmarked { result.lost ≡ false }
         ensures in_turn { BitsInTurn }
     {
         DropLayer {
             line,
-            pattern: Pattern { bits: pattern },
+            pattern: Pattern::new(pattern),
             lost: false,
         }
     }
@@ -38,9 +38,8 @@ impl<L: Line> Line for DropLayer<L> {
     ghost shows = { layer_shown L.Line.shows };
 
     fn send(&mut self, to: End, frame: Frame)
-        ensures sends { (lost : Bool) × (layer_shown L.Line.shows self.new ≡ sent to frame lost (layer_shown L.Line.shows self.old)) }
-        ensures exactly { (lost : Bool) × (layer_shown L.Line.shows self.new ≡ sent to frame (lowest_bit self.old.pattern.bits || lost) (layer_shown L.Line.shows self.old)) × (L.Line.shows self.new.line ≡ passed (lowest_bit self.old.pattern.bits) to frame lost (L.Line.shows self.old.line)) }
-        ensures turns { self.new.pattern.bits ≡ turned self.old.pattern.bits }
+        ensures exactly { (lost : Bool) × (layer_shown L.Line.shows self.new ≡ sent to frame (lowest_bit self.old.pattern || lost) (layer_shown L.Line.shows self.old)) × (L.Line.shows self.new.line ≡ passed (lowest_bit self.old.pattern) to frame lost (L.Line.shows self.old.line)) }
+        ensures turns { self.new.pattern ≡ turned self.old.pattern }
     {
         if self.pattern.turn() {
             self.lost = true;

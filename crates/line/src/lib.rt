@@ -1,16 +1,14 @@
 //! What carries frames between a master and a node, and may lose them; nothing of what the frames mean.
 #![tactic(auto)]
 
+mod bounded_line;
 mod drop_layer;
 mod end;
 mod line;
-mod mailbox;
-mod memory;
 mod pattern;
 mod queue;
 
+pub use bounded_line::{BoundedLine, MailboxLine, MemoryLine};
 pub use drop_layer::DropLayer;
 pub use end::End;
 pub use line::Line;
-pub use mailbox::MailboxLine;
-pub use memory::MemoryLine;

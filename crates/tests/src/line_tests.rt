@@ -1,5 +1,5 @@
 //! What the lines keep, lose and hand out.
-use line::{DropLayer, End, Line, MailboxLine, MemoryLine};
+use line::{BoundedLine, DropLayer, End, Line, MailboxLine, MemoryLine};
 use wire::{Frame, Identifier, NodeNumber};
 
 /// A frame that is told from others by a number.
@@ -73,14 +73,29 @@ fn a_mailbox_keeps_the_first_each_way(rt: HostRuntime) {
 }
 
 #[test]
+fn a_line_without_room_loses_every_frame(rt: HostRuntime) {
+    let mut line: BoundedLine<0> = BoundedLine::new();
+    assert_eq!(rt; carried(&mut line, 1), None);
+    assert_eq!(rt; carried(&mut line, 2), None);
+}
+
+#[test]
+fn a_line_with_room_for_three_keeps_three(rt: HostRuntime) {
+    let mut line: BoundedLine<3> = BoundedLine::new();
+    for number in 0..5u8 {
+        line.send(End::Master, numbered(number));
+    }
+    for number in 0..3u8 {
+        assert_eq!(rt; line.take(End::Master), Some(numbered(number)));
+    }
+    assert_eq!(rt; line.take(End::Master), None);
+}
+
+#[test]
 fn one_bit_loses_the_first_and_every_64th_after(rt: HostRuntime) {
     let mut line = DropLayer::new(MailboxLine::new(), 0x0000_0000_0000_0001);
     for number in 0..200u8 {
-        let kept = if number % 64 == 0 {
-            None
-        } else {
-            Some(numbered(number))
-        };
+        let kept = (number % 64 != 0).then_some(numbered(number));
         assert_eq!(rt; carried(&mut line, number), kept);
     }
 }
