@@ -1,5 +1,5 @@
 -- Written orders read back: word by word, line by line.
-use Rattle.std.proofs.Common.{◌≡◌, ℕ, ◌+◌, ◌-◌, ◌/◌, ◌%◌, ◌^◌, ◌<◌, ◌≤◌, Bool, true, false, eqb, List, [], ◌∷◌, ◌++◌, map, length, get_or, Ok, refl, ap, ◌∙◌, append_assoc, append-nil, arith, length-append}
+use Rattle.std.proofs.Common.{◌≡◌, ℕ, ◌+◌, ◌-◌, ◌/◌, ◌%◌, ◌^◌, ◌<◌, ◌≤◌, Bool, true, false, cond, not, eqb, List, [], ◌∷◌, ◌++◌, map, length, get_or, Ok, refl, ap, ◌∙◌, append_assoc, append-nil, arith, length-append}
 use Rattle.std.proofs.lemmas.Bool.{cond-false, ne_eqb}
 use Rattle.std.proofs.lemmas.Bool.Decides.{nat_tests}
 use Rattle.std.proofs.lemmas.List.Elements.{All-nil, All-cons, All-head, All-tail, All-append, All-get_or, All-weaker}
@@ -51,10 +51,13 @@ multiplexor_dark m =
 lighter : (w : List ℕ) → All (λ c. 48 ≤ c) w → All (λ c. 32 ≤ c) w
 lighter w h = All-weaker (λ c. 48 ≤ c) (λ c. 32 ≤ c) (λ c k. omega arith) w h
 
+kept : (c : ℕ) (w : List ℕ) (ps : List (List ℕ)) → not_empty ((c ∷ w) ∷ ps) ≡ (c ∷ w) ∷ not_empty ps
+kept c w ps = let some : eqb (length (c ∷ w)) 0 ≡ false = ne_eqb _ _ (λ e. omega arith) in ap (λ t. cond (not t) ((c ∷ w) ∷ not_empty ps) (not_empty ps)) some
+
 words-written : (c : ℕ) (w v : List ℕ) → Whole is_blank (c ∷ w) → words ((c ∷ w) ++ bytes_written v) ≡ (c ∷ w) ∷ map byte_written v
-words-written c w [] whole = ap words (append-nil (c ∷ w)) ∙ ap not_empty (pieces-last is_blank c w whole)
+words-written c w [] whole = ap words (append-nil (c ∷ w)) ∙ ap not_empty (pieces-last is_blank c w whole) ∙ kept c w []
 words-written c w (b ∷ v) whole =
-    ap not_empty (pieces_first is_blank 32 refl (c ∷ w) (byte_written b ++ bytes_written v) whole)
+    ap not_empty (pieces_first is_blank 32 refl (c ∷ w) (byte_written b ++ bytes_written v) whole) ∙ kept c w (pieces is_blank (byte_written b ++ bytes_written v))
     ∙ ap (λ ws. (c ∷ w) ∷ ws) (words-written (digit_for (b / 16)) (digit_for (b % 16) ∷ []) v (All-weaker (λ c. 48 ≤ c) (λ c. is_blank c ≡ false) dark (byte_written b) (byte_dark b)))
 
 bytes_read : (bs v : List ℕ) → All (λ b. b < 2 ^ 8) v → length bs + length v ≤ longest → bytes_in bs (map byte_written v) ≡ Ok (bs ++ v)
