@@ -34,10 +34,10 @@ impl Reading {
             Ok(None) => {}
             Ok(Some(order)) => self.orders.push(order)?,
             Err(Fault::OutOfMemory) => return Err(AllocError),
-            Err(fault) => {
-                let line = number;
-                self.bad.push(BadLine { line, fault })?;
-            }
+            Err(fault) => self.bad.push(BadLine {
+                line: number,
+                fault,
+            })?,
         }
         Ok(())
     }
