@@ -21,10 +21,7 @@ fn is_comment(line: &[u8]) -> bool
 fn without_return(line: &[u8]) -> &[u8]
     ensures { result.now ≡ without_return line.now }
 {
-    match line {
-        [front @ .., b'\r'] => front,
-        _ => line,
-    }
+    line.strip_suffix(b"\r").unwrap_or(line)
 }
 
 /// The value that words write.

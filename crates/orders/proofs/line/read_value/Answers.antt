@@ -23,10 +23,9 @@ pub loop-word-preserved : goal.loop-word-preserved
 loop-word-preserved g c =
     let good : byte_in c.in-Some.word.now ≡ Some c.in_ok-byte.byte = grind (arith, common_steps) in
     let room : length c.loop-word.value.items < longest = grind (arith, common_steps) in
-    let pushed : c.try_push.new.self.items ≡ c.loop-word.value.items ++ c.in_ok-byte.byte ∷ [] = grind (arith, common_steps) in
     (search rules, search rules, λ ws all.
     let more = left_more (c.loop-word.invariant.2 ws all) c.in-Some.ensures.steps good (λ e. omega arith) in
-    subst (λ bs. Left g.W.Iterator.next_gives c.next.new.self bs (value_in ws)) (sym pushed) more)
+    grind (arith, common_steps))
 
 pub returns-in_err-from_slice : goal.returns-in_err-from_slice
 returns-in_err-from_slice g c = λ ws all.
