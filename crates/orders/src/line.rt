@@ -14,7 +14,7 @@ use std::alloc::Global;
 fn is_comment(line: &[u8]) -> bool
     ensures { result ≡ is_comment line.now }
 {
-    matches!(line, [b'#', ..])
+    line.starts_with(b"#")
 }
 
 /// A line but for a carriage return at its end.
