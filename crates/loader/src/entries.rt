@@ -11,7 +11,7 @@ const LOWEST: Multiplexor = Multiplexor {
     subindex: 0,
 };
 
-/// How many multiplexors there are.
+/// How many multiplexors there are, which bounds the walk over all entries.
 const ALL: usize = 0x100_0000;
 
 /// The most bytes that a value may have.
@@ -49,6 +49,7 @@ fn print_entry<D: Readable>(
     Ok(())
 }
 
+// In words here: the dictionary, whose type it is, prints nothing.
 /// The access in words.
 fn access_words(access: Access) -> &'static str {
     match access {

@@ -15,6 +15,7 @@ const SAMPLE_NODE: u8 = 5;
 pub fn load_all(rt: &HostRuntime, orders: &[Order]) -> anyhow::Result<()> {
     let mut table = sample();
     let mut node = Node::new(NodeNumber::nearest(SAMPLE_NODE));
+    // Counted beside the printing: a fold over both would be no plainer.
     let mut accepted: usize = 0;
     for (place, order) in (1usize..).zip(orders) {
         let multiplexor = order.multiplexor;

@@ -35,8 +35,8 @@ module _ {T B C : Type 0} {others : T → Option B → T → Type 0} {w : B → 
         runs = (
           (λ t none. ⊎_elim (λ e. let full : 18446744073709551615 - (zip_first s).start ≡ 0 = e.1.0 in absurd (omega arith)) (λ e. road.runs.0 e.0 e.1) none),
           λ x t step.
-            let first = road.runs.1 x.1 (zip_second t) step.1 in
-            let number = step.0.0 ∙ starts in
-            ((λ i. (number i, first.0 i)), (come_numbered (a + 1) ys t (step.0.1 ∙ ap (λ n. n + 1) number) (record { runs = first.1 }) (omega arith)).runs),
+              let first = road.runs.1 x.1 (zip_second t) step.1 in
+              let number = step.0.0 ∙ starts in
+              ((λ i. (number i, first.0 i)), (come_numbered (a + 1) ys t (step.0.1 ∙ ap (λ n. n + 1) number) (record { runs = first.1 }) (omega arith)).runs),
         );
       }

@@ -1,9 +1,8 @@
-use Rattle.std.proofs.Common.{◌≡◌, ℕ, ◌+◌, ◌<◌, List, [], ◌∷◌, ◌++◌, length, None, Some, Err, Ok, subst, sym, ap, ◌∙◌, arith, rules}
+use Rattle.std.proofs.Common.{◌≡◌, ◌<◌, length, None, Some, ◌∙◌, arith, rules}
 use Rattle.std.proofs.lemmas.Grind.{common_steps}
-use Rattle.orders.specs.declared.fault.Fault.TheVariants.{NotByte, TooManyBytes}
 use Rattle.orders.specs.Hex.{byte_in}
-use Rattle.orders.specs.Lines.{longest, value_in}
-use Rattle.orders.proofs.Values.{Left, left_bad, left_full, left_more, left_none, value_all}
+use Rattle.orders.specs.Lines.{longest}
+use Rattle.orders.proofs.Values.{left_bad, left_full, left_more, left_none, value_all}
 use Rattle.orders.proofs.line.read_value.Goals as goal
 
 pub returns-in_err-byte : goal.returns-in_err-byte
@@ -22,10 +21,13 @@ returns-in_err-map_err g c = λ ws all.
 pub loop-word-preserved : goal.loop-word-preserved
 loop-word-preserved g c =
     let good : byte_in c.in-Some.word.now ≡ Some c.in_ok-byte.byte = grind (arith, common_steps) in
-    let room : length c.loop-word.value.items < longest = grind (arith, common_steps) in
-    (search rules, search rules, λ ws all.
-    let more = left_more (c.loop-word.invariant.2 ws all) c.in-Some.ensures.steps good (λ e. omega arith) in
-    grind (arith, common_steps))
+    let room : length c.loop-word.value.items < longest = grind (arith, common_steps) in (
+      search rules,
+      search rules,
+      λ ws all.
+          let more = left_more (c.loop-word.invariant.2 ws all) c.in-Some.ensures.steps good (λ e. omega arith) in
+          grind (arith, common_steps),
+    )
 
 pub returns-in_err-from_slice : goal.returns-in_err-from_slice
 returns-in_err-from_slice g c = λ ws all.
