@@ -2,6 +2,7 @@
 use crate::hex_bytes::HexBytes;
 use dictionary::{Access, Attributes, Readable};
 use std::alloc::{AllocError, Global};
+use std::iter;
 use wire::Multiplexor;
 
 /// The lowest multiplexor of all.
@@ -10,23 +11,19 @@ const LOWEST: Multiplexor = Multiplexor {
     subindex: 0,
 };
 
-/// How many multiplexors there are.
-const ALL: u32 = 0x100_0000;
+/// How many multiplexors there are, which bounds the walk over all entries.
+const ALL: usize = 0x100_0000;
 
 /// The most bytes that a value may have.
 const LONGEST: usize = 1024;
 
 /// Prints all entries of a dictionary, in rising order.
 pub fn print_entries<D: Readable>(rt: &HostRuntime, dictionary: &D) -> anyhow::Result<()> {
-    let mut at = Some(LOWEST);
-    for _ in 0..ALL {
-        let Some(multiplexor) = at else {
-            break;
-        };
+    let all = iter::successors(Some(LOWEST), |multiplexor| dictionary.next(*multiplexor));
+    for multiplexor in all.take(ALL) {
         if let Ok(attributes) = dictionary.attributes(multiplexor) {
             print_entry(rt, dictionary, multiplexor, attributes)?;
         }
-        at = dictionary.next(multiplexor);
     }
     Ok(())
 }
@@ -52,6 +49,7 @@ fn print_entry<D: Readable>(
     Ok(())
 }
 
+// In words here: the dictionary, whose type it is, prints nothing.
 /// The access in words.
 fn access_words(access: Access) -> &'static str {
     match access {

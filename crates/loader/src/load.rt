@@ -1,7 +1,7 @@
 //! Orders carried out at the sample node, one after the other.
 use crate::entries::print_entries;
 use crate::hex_bytes::HexBytes;
-use anyhow::anyhow;
+use anyhow::Context;
 use dictionary::sample;
 use exchange::{Exchange, Outcome, expedited_write};
 use node::Node;
@@ -15,15 +15,14 @@ const SAMPLE_NODE: u8 = 5;
 pub fn load_all(rt: &HostRuntime, orders: &[Order]) -> anyhow::Result<()> {
     let mut table = sample();
     let mut node = Node::new(NodeNumber::nearest(SAMPLE_NODE));
+    // Counted beside the printing: a fold over both would be no plainer.
     let mut accepted: usize = 0;
-    for (i, order) in orders.iter().enumerate() {
-        let place = i.saturating_add(1);
+    for (place, order) in (1usize..).zip(orders) {
         let multiplexor = order.multiplexor;
         let value = HexBytes(&order.value);
         println!(rt; "Order {place}: {multiplexor} {value}")?;
-        let Some(data) = ExpeditedData::new(&order.value) else {
-            return Err(anyhow!("an order has no bytes, or more than a start carries"));
-        };
+        let data = ExpeditedData::new(&order.value)
+            .context("an order has no bytes, or more than a start carries")?;
         let exchange = expedited_write(&mut node, &mut table, multiplexor, data);
         print_exchange(rt, exchange)?;
         if let Outcome::Accepted = exchange.outcome {

@@ -5,7 +5,7 @@ mod entries;
 mod hex_bytes;
 mod load;
 
-use anyhow::anyhow;
+use anyhow::{bail, ensure};
 use load::load_all;
 use orders::{Order, read_orders};
 use std::env;
@@ -57,10 +57,8 @@ fn run(rt: &HostRuntime) -> anyhow::Result<()> {
 fn asks_for_help(rt: &HostRuntime) -> anyhow::Result<bool> {
     let mut asked = false;
     for argument in env::args(rt)?.skip(1) {
-        if argument.as_str() != "--help" && argument.as_str() != "-h" {
-            return Err(anyhow!(format!(in rt.alloc(); "unknown argument {argument}, try --help")?));
-        }
-        asked = true;
+        asked = matches!(argument.as_str(), "--help" | "-h");
+        ensure!(asked, "unknown argument {argument}, try --help");
     }
     Ok(asked)
 }
@@ -70,18 +68,15 @@ fn orders_of(rt: &HostRuntime, text: &[u8]) -> anyhow::Result<Vec<Order>> {
     match read_orders(rt.alloc(), without_mark(text))?.into_orders() {
         Ok(orders) => Ok(orders),
         Err(bad) => {
-            for line in bad.iter() {
+            for line in &bad {
                 eprintln!(rt; "{line}")?;
             }
-            Err(anyhow!("not all lines are orders, so nothing was set"))
+            bail!("not all lines are orders, so nothing was set")
         }
     }
 }
 
 /// A text but for the byte order mark that some editors put at its front.
 fn without_mark(text: &[u8]) -> &[u8] {
-    match text {
-        [0xef, 0xbb, 0xbf, rest @ ..] => rest,
-        _ => text,
-    }
+    text.strip_prefix(b"\xef\xbb\xbf").unwrap_or(text)
 }

@@ -1,39 +1,38 @@
 -- Written orders read back: word by word, line by line.
-use Rattle.std.proofs.Common.{◌≡◌, ℕ, ◌+◌, ◌-◌, ◌/◌, ◌%◌, ◌^◌, ◌<◌, ◌≤◌, true, false, eqb, List, [], ◌∷◌, ◌++◌, map, length, get_or, Ok, refl, ap, ◌∙◌, append_assoc, append-nil, arith, length-append}
+use Rattle.std.proofs.Common.{◌≡◌, ℕ, ◌+◌, ◌-◌, ◌/◌, ◌%◌, ◌^◌, ◌<◌, ◌≤◌, Bool, true, false, cond, not, eqb, List, [], ◌∷◌, ◌++◌, map, length, get_or, Ok, refl, ap, ◌∙◌, append_assoc, append-nil, arith, length-append}
 use Rattle.std.proofs.lemmas.Bool.{cond-false, ne_eqb}
 use Rattle.std.proofs.lemmas.Bool.Decides.{nat_tests}
 use Rattle.std.proofs.lemmas.List.Elements.{All-nil, All-cons, All-head, All-tail, All-append, All-get_or, All-weaker}
 use Rattle.std.specs.Prelude.{All}
+use Rattle.std.specs.List.{onto_first}
 use Rattle.wire.specs.declared.multiplexor.Multiplexor.{Multiplexor}
-use Rattle.orders.specs.declared.pieces.Separator.{Separator}
-use Rattle.orders.specs.declared.pieces.Separator.TheVariants.{Blank, LineEnd}
 use Rattle.orders.specs.Lines.{longest, is_comment, without_return, bytes_in, value_in, order_of, order_at, order_in}
-use Rattle.orders.specs.Pieces.{parts, onto, pieces, not_empty, words, lines}
+use Rattle.orders.specs.Pieces.{is_blank, is_line_end, pieces, not_empty, words, lines}
 use Rattle.orders.specs.Texts.{orders_on, orders_in, bad_on, bad_in}
 use Rattle.orders.specs.Written.{digit_for, byte_written, bytes_written, multiplexor_written, written, text_written, Sound, LinesReadBack, TextsReadBack}
 use Rattle.orders.proofs.Digits.{digit_above, byte_read, multiplexor-read}
 
 -- a piece that holds no separator
-abbrev Whole : Separator → List ℕ → Type 0
-Whole at w = All (λ b. parts at b ≡ false) w
+abbrev Whole : (ℕ → Bool) → List ℕ → Type 0
+Whole parts w = All (λ b. parts b ≡ false) w
 
-pieces_first : (at : Separator) (s : ℕ) → parts at s ≡ true → (w rest : List ℕ) → Whole at w → pieces at (w ++ s ∷ rest) ≡ w ∷ pieces at rest
-pieces_first at s sep [] rest whole = rw sep
-pieces_first at s sep (b ∷ w) rest whole =
-    let Part : ℕ → Type 0 = λ c. parts at c ≡ false in
-    let first = All-head Part b w whole in rw first (ap (onto b) (pieces_first at s sep w rest (All-tail Part b w whole)))
+pieces_first : (parts : ℕ → Bool) (s : ℕ) → parts s ≡ true → (w rest : List ℕ) → Whole parts w → pieces parts (w ++ s ∷ rest) ≡ w ∷ pieces parts rest
+pieces_first parts s sep [] rest whole = rw sep
+pieces_first parts s sep (b ∷ w) rest whole =
+    let Part : ℕ → Type 0 = λ c. parts c ≡ false in
+    let first = All-head Part b w whole in rw first (ap (onto_first b) (pieces_first parts s sep w rest (All-tail Part b w whole)))
 
-pieces-last : (at : Separator) (b : ℕ) (w : List ℕ) → Whole at (b ∷ w) → pieces at (b ∷ w) ≡ (b ∷ w) ∷ []
-pieces-last at b [] whole = let first = All-head (λ c. parts at c ≡ false) b [] whole in rw first
-pieces-last at b (c ∷ w) whole =
-    let Part : ℕ → Type 0 = λ d. parts at d ≡ false in
-    let first = All-head Part b (c ∷ w) whole in rw first (ap (onto b) (pieces-last at c w (All-tail Part b (c ∷ w) whole)))
+pieces-last : (parts : ℕ → Bool) (b : ℕ) (w : List ℕ) → Whole parts (b ∷ w) → pieces parts (b ∷ w) ≡ (b ∷ w) ∷ []
+pieces-last parts b [] whole = let first = All-head (λ c. parts c ≡ false) b [] whole in rw first
+pieces-last parts b (c ∷ w) whole =
+    let Part : ℕ → Type 0 = λ d. parts d ≡ false in
+    let first = All-head Part b (c ∷ w) whole in rw first (ap (onto_first b) (pieces-last parts c w (All-tail Part b (c ∷ w) whole)))
 
 -- what is above a blank parts no words, and what is no less parts no lines
-dark : (b : ℕ) → 48 ≤ b → parts Blank b ≡ false
+dark : (b : ℕ) → 48 ≤ b → is_blank b ≡ false
 dark b h = grind (arith, nat_tests)
 
-inline : (b : ℕ) → 32 ≤ b → parts LineEnd b ≡ false
+inline : (b : ℕ) → 32 ≤ b → is_line_end b ≡ false
 inline b h = grind (arith, nat_tests)
 
 byte_dark : (b : ℕ) → All (λ c. 48 ≤ c) (byte_written b)
@@ -52,11 +51,14 @@ multiplexor_dark m =
 lighter : (w : List ℕ) → All (λ c. 48 ≤ c) w → All (λ c. 32 ≤ c) w
 lighter w h = All-weaker (λ c. 48 ≤ c) (λ c. 32 ≤ c) (λ c k. omega arith) w h
 
-words-written : (c : ℕ) (w v : List ℕ) → Whole Blank (c ∷ w) → words ((c ∷ w) ++ bytes_written v) ≡ (c ∷ w) ∷ map byte_written v
-words-written c w [] whole = ap words (append-nil (c ∷ w)) ∙ ap not_empty (pieces-last Blank c w whole)
+kept : (c : ℕ) (w : List ℕ) (ps : List (List ℕ)) → not_empty ((c ∷ w) ∷ ps) ≡ (c ∷ w) ∷ not_empty ps
+kept c w ps = let some : eqb (length (c ∷ w)) 0 ≡ false = ne_eqb _ _ (λ e. omega arith) in ap (λ t. cond (not t) ((c ∷ w) ∷ not_empty ps) (not_empty ps)) some
+
+words-written : (c : ℕ) (w v : List ℕ) → Whole is_blank (c ∷ w) → words ((c ∷ w) ++ bytes_written v) ≡ (c ∷ w) ∷ map byte_written v
+words-written c w [] whole = ap words (append-nil (c ∷ w)) ∙ ap not_empty (pieces-last is_blank c w whole) ∙ kept c w []
 words-written c w (b ∷ v) whole =
-    ap not_empty (pieces_first Blank 32 refl (c ∷ w) (byte_written b ++ bytes_written v) whole)
-    ∙ ap (λ ws. (c ∷ w) ∷ ws) (words-written (digit_for (b / 16)) (digit_for (b % 16) ∷ []) v (All-weaker (λ c. 48 ≤ c) (λ c. parts Blank c ≡ false) dark (byte_written b) (byte_dark b)))
+    ap not_empty (pieces_first is_blank 32 refl (c ∷ w) (byte_written b ++ bytes_written v) whole) ∙ kept c w (pieces is_blank (byte_written b ++ bytes_written v))
+    ∙ ap (λ ws. (c ∷ w) ∷ ws) (words-written (digit_for (b / 16)) (digit_for (b % 16) ∷ []) v (All-weaker (λ c. 48 ≤ c) (λ c. is_blank c ≡ false) dark (byte_written b) (byte_dark b)))
 
 bytes_read : (bs v : List ℕ) → All (λ b. b < 2 ^ 8) v → length bs + length v ≤ longest → bytes_in bs (map byte_written v) ≡ Ok (bs ++ v)
 bytes_read bs [] small fits = rw append-nil
@@ -89,7 +91,7 @@ no_return (c ∷ line) h =
 
 pub lines_read_back : LinesReadBack
 lines_read_back m v sound =
-    let read : words (written m v) ≡ multiplexor_written m ∷ map byte_written v = words-written _ _ v (All-weaker (λ c. 48 ≤ c) (λ c. parts Blank c ≡ false) dark (multiplexor_written m) (multiplexor_dark m)) in
+    let read : words (written m v) ≡ multiplexor_written m ∷ map byte_written v = words-written _ _ v (All-weaker (λ c. 48 ≤ c) (λ c. is_blank c ≡ false) dark (multiplexor_written m) (multiplexor_dark m)) in
     let order : is_comment (written m v) ≡ false = ne_eqb _ _ (λ e. omega (arith, digit_above (m.index / 256 / 16))) in
     cond-false _ _ _ order
     ∙ ap (λ l. order_in (words l)) (no_return (written m v) (light m v))
@@ -102,7 +104,7 @@ all_read : (os : List (Multiplexor × List ℕ)) (n : ℕ) → All (λ o. Sound 
 all_read [] n sound = (refl, refl)
 all_read (o ∷ os) n sound =
     let line = written o.0 o.1 in
-    let parted : lines (text_written (o ∷ os)) ≡ line ∷ lines (text_written os) = pieces_first LineEnd 10 refl line (text_written os) (All-weaker (λ c. 32 ≤ c) (λ c. parts LineEnd c ≡ false) inline line (light o.0 o.1)) in
+    let parted : lines (text_written (o ∷ os)) ≡ line ∷ lines (text_written os) = pieces_first is_line_end 10 refl line (text_written os) (All-weaker (λ c. 32 ≤ c) (λ c. is_line_end c ≡ false) inline line (light o.0 o.1)) in
     let Read : (Multiplexor × List ℕ) → Type 0 = λ q. Sound q.0 q.1 in
     let meant = lines_read_back o.0 o.1 (All-head Read o os sound) in
     let rest = all_read os (n + 1) (All-tail Read o os sound) in (

@@ -1,4 +1,5 @@
 mod Backs
+mod Comes
 mod Cuts
 mod Digits
 mod Turns

@@ -1,10 +1,13 @@
 -- The value of an order, word by word.
-use Rattle.std.proofs.Common.{◌≡◌, ℕ, ◌+◌, ◌<◌, List, [], ◌∷◌, ◌++◌, length, Some, None, Ok, Err, Result, refl, ap, ◌∙◌, inl, inr, arith}
+use Rattle.std.proofs.Common.{◌≡◌, ℕ, ◌+◌, ◌<◌, List, [], ◌∷◌, ◌++◌, length, Some, None, Ok, Err, Result, refl, sym, ap, ◌∙◌, inl, inr, Option, arith}
+use denote.Ref.{Bor}
 use Rattle.std.proofs.lemmas.Bool.{eq-eqb, ne_eqb, false≢true}
+use Rattle.std.proofs.lemmas.Iterator.{YieldsList}
 use Rattle.wire.specs.declared.multiplexor.Multiplexor.{Multiplexor}
 use Rattle.orders.specs.declared.fault.Fault.{Fault}
 use Rattle.orders.specs.declared.fault.Fault.TheVariants.{NotByte, TooManyBytes}
 use Rattle.orders.specs.Hex.{byte_in}
+use Rattle.orders.proofs.Comes.{comes_next, comes_none}
 use Rattle.orders.specs.Lines.{longest, bytes_in, value_in, with_byte, and_then, order_of, Reads, ReadsValue}
 
 -- the value of which some bytes are read, and words are left
@@ -34,6 +37,29 @@ module _ (bs w : List ℕ) (ws : List (List ℕ)) where
 pub value_all : (bs : List ℕ) → 0 < length bs → value_after bs [] ≡ Ok bs
 value_all [] some = absurd (omega arith)
 value_all (b ∷ bs) some = refl
+
+-- an iterator from which words are to come that, behind some bytes, write a value
+pub record Left {S : Type 0} (steps : S → Option (Bor (List ℕ)) → S → Type 0) (s : S) (bytes : List ℕ) (v : Result (List ℕ) Fault) : Type 0 where
+  pub words : List (List ℕ)
+  pub come : YieldsList steps (λ w. w.now) s words
+  pub write : value_after bytes words ≡ v
+
+module _ {S : Type 0} {steps : S → Option (Bor (List ℕ)) → S → Type 0} {s t : S} {bytes : List ℕ} {v : Result (List ℕ) Fault} (left : Left steps s bytes v) where
+  -- the next word is the first that is left
+  next_left : {x : Bor (List ℕ)} → steps s (Some x) t → (rest : List (List ℕ)) × YieldsList steps (λ w. w.now) t rest × (v ≡ value_after bytes (x.now ∷ rest))
+  next_left {x} step = let next = comes_next left.words left.come step in (next.rest, next.come, sym left.write ∙ ap (value_after bytes) next.is)
+
+  pub left_bad : {x : Bor (List ℕ)} → steps s (Some x) t → byte_in x.now ≡ None → v ≡ Err (NotByte (length bytes + 1))
+  left_bad step bad = let next = next_left step in next.2 ∙ value-bad _ _ _ bad
+
+  pub left_full : {x : Bor (List ℕ)} {b : ℕ} → steps s (Some x) t → byte_in x.now ≡ Some b → length bytes ≡ longest → v ≡ Err TooManyBytes
+  left_full step good full = let next = next_left step in next.2 ∙ value-full _ _ _ _ good full
+
+  pub left_more : {x : Bor (List ℕ)} {b : ℕ} → steps s (Some x) t → byte_in x.now ≡ Some b → (length bytes ≡ longest → ⊥) → Left steps t (bytes ++ b ∷ []) v
+  left_more step good room = let next = next_left step in record { words = next.0; come = next.1; write = sym (next.2 ∙ value-more _ _ _ _ good room) }
+
+  pub left_none : steps s None t → v ≡ value_after bytes []
+  left_none step = sym left.write ∙ ap (value_after bytes) (comes_none left.words left.come step)
 
 -- an order's fault, or its want of memory, is its value's
 pub order_failed : (m : Multiplexor) (f : Fault) (v : Result (List ℕ) Fault) → ReadsValue (Err f) v → Reads (Err f) (order_of m v)

@@ -1,6 +1,6 @@
 -- What a line of orders means: nothing, an order, or the first thing wrong with it.
 -- A line is read from left to right: a comment or a blank line is passed over; then comes the multiplexor, then one byte after another.
-use Rattle.std.specs.Prelude.{◌≡◌, ℕ, ◌+◌, ◌-◌, ◌≤◌, Bool, true, false, cond, ◌⊎◌, List, [], ◌∷◌, ◌++◌, length, take, is_ok, Some, None, Ok, Err, vec_items, Option, Result, Vec, ◌==◌, slice_index}
+use Rattle.std.specs.Prelude.{◌≡◌, ℕ, ◌+◌, ◌-◌, Bool, true, false, cond, ◌⊎◌, List, [], ◌∷◌, ◌++◌, length, take, is_ok, Some, None, Ok, Err, vec_items, Option, Result, Vec, ◌==◌, slice_index}
 use Rattle.std.specs.declared.alloc.Global.{Global}
 use Rattle.wire.specs.declared.multiplexor.Multiplexor.{Multiplexor}
 use Rattle.orders.specs.declared.fault.Fault.{Fault}
@@ -74,8 +74,3 @@ Reads (Err f) l = (l ≡ faulty f) ⊎ ((f ≡ OutOfMemory) × (is_order l ≡ t
 abbrev pub ReadsValue : Result (Vec ℕ Global) Fault → Result (List ℕ) Fault → Type 0
 ReadsValue (Ok x) v = v ≡ Ok (vec_items x)
 ReadsValue (Err f) v = (v ≡ Err f) ⊎ ((f ≡ OutOfMemory) × (is_ok v ≡ true))
-
--- the same of a value in the front of a buffer, where memory cannot fail
-abbrev pub Fills : Result ℕ Fault → List ℕ → Result (List ℕ) Fault → Type 0
-Fills (Ok n) buffer v = (n ≤ length buffer) × (v ≡ Ok (take n buffer))
-Fills (Err f) buffer v = v ≡ Err f

@@ -1,30 +1,26 @@
 -- How a text parts: into lines at each line end (10), and a line into words at blanks (32) and tabs (9).
-use Rattle.std.specs.Prelude.{ℕ, Bool, cond, ◌||◌, List, [], ◌∷◌, ◌==◌}
-use Rattle.orders.specs.declared.pieces.Separator.{Separator}
-use Rattle.orders.specs.declared.pieces.Separator.TheVariants.{Blank, LineEnd}
+use Rattle.std.specs.Prelude.{ℕ, Bool, cond, not, ◌||◌, List, [], ◌∷◌, length, filter, ◌==◌}
+use Rattle.std.specs.List.{onto_first}
 
-abbrev pub parts : Separator → ℕ → Bool
-parts Blank b = b == 32 || b == 9
-parts LineEnd b = b == 10
+-- a byte that parts two words
+abbrev pub is_blank : ℕ → Bool
+is_blank b = b == 32 || b == 9
 
--- one more byte in front of the first piece
-abbrev pub onto : ℕ → List (List ℕ) → List (List ℕ)
-onto b [] = (b ∷ []) ∷ []
-onto b (p ∷ ps) = (b ∷ p) ∷ ps
+-- a byte that parts two lines
+abbrev pub is_line_end : ℕ → Bool
+is_line_end b = b == 10
 
 -- the pieces that separators end; the last piece needs none
-abbrev pub pieces : Separator → List ℕ → List (List ℕ)
-pieces at [] = []
-pieces at (b ∷ bs) = cond (parts at b) ([] ∷ pieces at bs) (onto b (pieces at bs))
+abbrev pub pieces : (ℕ → Bool) → List ℕ → List (List ℕ)
+pieces parts [] = []
+pieces parts (b ∷ bs) = cond (parts b) ([] ∷ pieces parts bs) (onto_first b (pieces parts bs))
 
 -- the pieces that are not empty
 abbrev pub not_empty : List (List ℕ) → List (List ℕ)
-not_empty [] = []
-not_empty ([] ∷ ps) = not_empty ps
-not_empty ((b ∷ p) ∷ ps) = (b ∷ p) ∷ not_empty ps
+not_empty ps = filter (λ p. not (length p == 0)) ps
 
 abbrev pub lines : List ℕ → List (List ℕ)
-lines text = pieces LineEnd text
+lines text = pieces is_line_end text
 
 abbrev pub words : List ℕ → List (List ℕ)
-words line = not_empty (pieces Blank line)
+words line = not_empty (pieces is_blank line)

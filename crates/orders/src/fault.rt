@@ -23,6 +23,7 @@ pub enum Fault {
     OutOfMemory,
 }
 
+// By hand: a derive would not state what is printed.
 impl fmt::Display for Fault {
     ghost output = { λ f. Some (reason f) };
 
@@ -43,6 +44,7 @@ impl fmt::Display for Fault {
     }
 }
 
+// By hand: a derive would not state which fault `?` makes of an error.
 impl From<AllocError> for Fault {
     ghost from_gives = { λ _ r. r ≡ OutOfMemory };
 

@@ -8,12 +8,7 @@ use wire::Multiplexor;
 fn digit(b: u8) -> Option<u8>
     ensures { result ≡ hex_digit b }
 {
-    match b {
-        b'0'..=b'9' => Some(b - b'0'),
-        b'A'..=b'F' => Some(b - b'A' + 10),
-        b'a'..=b'f' => Some(b - b'a' + 10),
-        _ => None,
-    }
+    Some(char::from(b).to_digit(16)? as u8)
 }
 
 /// The byte that two hex digits write.
@@ -45,6 +40,6 @@ pub(crate) fn read_multiplexor(word: &[u8]) -> Option<Multiplexor>
     let high = byte(*a, *b)?;
     let low = byte(*c, *d)?;
     let subindex = byte(*e, *f)?;
-    let index = high as u16 * 256 + low as u16;
+    let index = u16::from_be_bytes([high, low]);
     Some(Multiplexor { index, subindex })
 }

@@ -6,7 +6,6 @@ mod fault;
 mod hex;
 mod line;
 mod order;
-mod pieces;
 mod reading;
 mod round_trip;
 

@@ -8,7 +8,6 @@ use crate::bad_line::BadLine;
 use crate::fault::Fault;
 use crate::line::read_line;
 use crate::order::Order;
-use crate::pieces::{Separator, cut};
 use std::alloc::{AllocError, Global};
 
 /// What was read of a text: its orders, and its lines that are none.
@@ -35,10 +34,10 @@ impl Reading {
             Ok(None) => {}
             Ok(Some(order)) => self.orders.push(order)?,
             Err(Fault::OutOfMemory) => return Err(AllocError),
-            Err(fault) => {
-                let line = number;
-                self.bad.push(BadLine { line, fault })?;
-            }
+            Err(fault) => self.bad.push(BadLine {
+                line: number,
+                fault,
+            })?,
         }
         Ok(())
     }
@@ -53,13 +52,8 @@ pub fn read_orders(heap: Global, text: &[u8]) -> Result<Reading, AllocError>
         orders: Vec::new(heap),
         bad: Vec::new(heap),
     };
-    let mut rest = text;
-    let mut number = 1;
-    while !rest.is_empty() {
-        let (line, after) = cut(rest, Separator::LineEnd);
+    for (number, line) in (1..).zip(text.split(|b| *b == b'\n')) {
         reading.add_line(heap, number, line)?;
-        number += 1;
-        rest = after;
     }
     Ok(reading)
 }
