@@ -56,7 +56,7 @@ impl Master {
     {
         match self.phase {
             Phase::Over(ending) => Some(ending),
-            Phase::Idle | Phase::Open(_) => None,
+            _ => None,
         }
     }
 

@@ -1,10 +1,7 @@
 //! What a master does with each of the node's answers, by the answer that it awaits.
-ghost use Rattle.std.specs.Prelude.{◌≡◌};
-ghost use Rattle.wire.specs.Multiplexors.{same};
 ghost use Rattle.sdo.specs.Answers.{shown_answer};
 ghost use Rattle.sdo.specs.Segments.{data_value};
 ghost use Rattle.sdo.specs.Transfers.{shown_transfer};
-ghost use Rattle.master.specs.Values.{same_toggle};
 ghost use Rattle.master.specs.Steps.{segment_taken, hear_initiate_download, hear_download_segment, hear_initiate_upload, hear_upload_segment, hear_initiate_block, hear_acknowledgement, hear_end, answered};
 ghost use Rattle.master.specs.Shown.{shown, Follows};
 
@@ -50,26 +47,11 @@ impl Master {
         ensures { Follows (hear_initiate_download (shown self.old) awaiting multiplexor) self.new result }
     {
         match awaiting {
-            Awaiting::ExpeditedDownload => {
-                if same(multiplexor, self.multiplexor) {
-                    self.succeed()
-                } else {
-                    self.find(awaiting, AbortCode::UnknownCommand)
-                }
+            Awaiting::ExpeditedDownload if multiplexor == self.multiplexor => self.succeed(),
+            Awaiting::InitiateDownload if multiplexor == self.multiplexor => {
+                self.send_segment(Toggle::Zero, 1)
             }
-            Awaiting::InitiateDownload => {
-                if same(multiplexor, self.multiplexor) {
-                    self.send_segment(Toggle::Zero, 1)
-                } else {
-                    self.find(awaiting, AbortCode::UnknownCommand)
-                }
-            }
-            Awaiting::DownloadSegment { .. }
-            | Awaiting::InitiateUpload
-            | Awaiting::UploadSegment { .. }
-            | Awaiting::InitiateBlockDownload
-            | Awaiting::BlockDownload(_)
-            | Awaiting::EndBlockDownload => self.find(awaiting, AbortCode::UnknownCommand),
+            _ => self.find(awaiting, AbortCode::UnknownCommand),
         }
     }
 
@@ -81,20 +63,9 @@ impl Master {
             Awaiting::DownloadSegment {
                 toggle: sent,
                 number,
-            } => {
-                if same_toggle(sent, toggle) {
-                    self.take_segment(sent, number)
-                } else {
-                    self.find(awaiting, AbortCode::ToggleNotAlternated)
-                }
-            }
-            Awaiting::ExpeditedDownload
-            | Awaiting::InitiateDownload
-            | Awaiting::InitiateUpload
-            | Awaiting::UploadSegment { .. }
-            | Awaiting::InitiateBlockDownload
-            | Awaiting::BlockDownload(_)
-            | Awaiting::EndBlockDownload => self.find(awaiting, AbortCode::UnknownCommand),
+            } if toggle == sent => self.take_segment(toggle, number),
+            Awaiting::DownloadSegment { .. } => self.find(awaiting, AbortCode::ToggleNotAlternated),
+            _ => self.find(awaiting, AbortCode::UnknownCommand),
         }
     }
 
@@ -119,20 +90,10 @@ impl Master {
         ensures { Follows (hear_initiate_upload (shown self.old) awaiting multiplexor (shown_transfer transfer)) self.new result }
     {
         match awaiting {
-            Awaiting::InitiateUpload => {
-                if same(multiplexor, self.multiplexor) {
-                    self.start_reading(awaiting, transfer)
-                } else {
-                    self.find(awaiting, AbortCode::UnknownCommand)
-                }
+            Awaiting::InitiateUpload if multiplexor == self.multiplexor => {
+                self.start_reading(awaiting, transfer)
             }
-            Awaiting::ExpeditedDownload
-            | Awaiting::InitiateDownload
-            | Awaiting::DownloadSegment { .. }
-            | Awaiting::UploadSegment { .. }
-            | Awaiting::InitiateBlockDownload
-            | Awaiting::BlockDownload(_)
-            | Awaiting::EndBlockDownload => self.find(awaiting, AbortCode::UnknownCommand),
+            _ => self.find(awaiting, AbortCode::UnknownCommand),
         }
     }
 
@@ -150,20 +111,9 @@ impl Master {
             Awaiting::UploadSegment {
                 toggle: asked,
                 size,
-            } => {
-                if same_toggle(asked, toggle) {
-                    self.read_on(asked, size, data, last)
-                } else {
-                    self.find(awaiting, AbortCode::ToggleNotAlternated)
-                }
-            }
-            Awaiting::ExpeditedDownload
-            | Awaiting::InitiateDownload
-            | Awaiting::DownloadSegment { .. }
-            | Awaiting::InitiateUpload
-            | Awaiting::InitiateBlockDownload
-            | Awaiting::BlockDownload(_)
-            | Awaiting::EndBlockDownload => self.find(awaiting, AbortCode::UnknownCommand),
+            } if toggle == asked => self.read_on(toggle, size, data, last),
+            Awaiting::UploadSegment { .. } => self.find(awaiting, AbortCode::ToggleNotAlternated),
+            _ => self.find(awaiting, AbortCode::UnknownCommand),
         }
     }
 
@@ -178,20 +128,10 @@ impl Master {
         ensures { Follows (hear_initiate_block (shown self.old) awaiting multiplexor crc block_size) self.new result }
     {
         match awaiting {
-            Awaiting::InitiateBlockDownload => {
-                if same(multiplexor, self.multiplexor) {
-                    self.start_blocks(awaiting, crc, block_size)
-                } else {
-                    self.find(awaiting, AbortCode::UnknownCommand)
-                }
+            Awaiting::InitiateBlockDownload if multiplexor == self.multiplexor => {
+                self.start_blocks(awaiting, crc, block_size)
             }
-            Awaiting::ExpeditedDownload
-            | Awaiting::InitiateDownload
-            | Awaiting::DownloadSegment { .. }
-            | Awaiting::InitiateUpload
-            | Awaiting::UploadSegment { .. }
-            | Awaiting::BlockDownload(_)
-            | Awaiting::EndBlockDownload => self.find(awaiting, AbortCode::UnknownCommand),
+            _ => self.find(awaiting, AbortCode::UnknownCommand),
         }
     }
 
@@ -203,13 +143,7 @@ impl Master {
             Awaiting::BlockDownload(sub_block) => {
                 self.acknowledge(sub_block, last_kept, block_size)
             }
-            Awaiting::ExpeditedDownload
-            | Awaiting::InitiateDownload
-            | Awaiting::DownloadSegment { .. }
-            | Awaiting::InitiateUpload
-            | Awaiting::UploadSegment { .. }
-            | Awaiting::InitiateBlockDownload
-            | Awaiting::EndBlockDownload => self.find(awaiting, AbortCode::UnknownCommand),
+            _ => self.find(awaiting, AbortCode::UnknownCommand),
         }
     }
 
@@ -219,30 +153,7 @@ impl Master {
     {
         match awaiting {
             Awaiting::EndBlockDownload => self.succeed(),
-            Awaiting::ExpeditedDownload
-            | Awaiting::InitiateDownload
-            | Awaiting::DownloadSegment { .. }
-            | Awaiting::InitiateUpload
-            | Awaiting::UploadSegment { .. }
-            | Awaiting::InitiateBlockDownload
-            | Awaiting::BlockDownload(_) => self.find(awaiting, AbortCode::UnknownCommand),
+            _ => self.find(awaiting, AbortCode::UnknownCommand),
         }
-    }
-}
-
-/// Whether two multiplexors are the same.
-fn same(a: Multiplexor, b: Multiplexor) -> bool
-    ensures { result ≡ same a b }
-{
-    a.index == b.index && a.subindex == b.subindex
-}
-
-/// Whether two toggles are the same.
-fn same_toggle(a: Toggle, b: Toggle) -> bool
-    ensures { result ≡ same_toggle a b }
-{
-    match (a, b) {
-        (Toggle::Zero, Toggle::Zero) | (Toggle::One, Toggle::One) => true,
-        (Toggle::Zero, Toggle::One) | (Toggle::One, Toggle::Zero) => false,
     }
 }

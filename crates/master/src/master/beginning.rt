@@ -45,15 +45,11 @@ impl Master {
     fn free(&self) -> Result<(), BeginRefusal>
         ensures { result ≡ free (shown self.now) }
     {
-        if let Phase::Open(_) | Phase::Over(_) = self.phase {
-            return Err(BeginRefusal::NotCleared);
-        }
-        if self.rest > 0 {
-            Err(BeginRefusal::Resting)
-        } else if self.begun == u16::MAX {
-            Err(BeginRefusal::AllBegun)
-        } else {
-            Ok(())
+        match self.phase {
+            Phase::Open(_) | Phase::Over(_) => Err(BeginRefusal::NotCleared),
+            Phase::Idle if self.rest > 0 => Err(BeginRefusal::Resting),
+            Phase::Idle if self.begun == u16::MAX => Err(BeginRefusal::AllBegun),
+            Phase::Idle => Ok(()),
         }
     }
 

@@ -90,14 +90,9 @@ impl Master {
         ensures { result ≡ may_have_set awaiting (shown_value self.now.value) }
     {
         match awaiting {
-            Awaiting::ExpeditedDownload => true,
-            Awaiting::InitiateDownload => false,
+            Awaiting::ExpeditedDownload | Awaiting::EndBlockDownload => true,
             Awaiting::DownloadSegment { number, .. } => self.value.is_last(number as usize),
-            Awaiting::InitiateUpload => false,
-            Awaiting::UploadSegment { .. } => false,
-            Awaiting::InitiateBlockDownload => false,
-            Awaiting::BlockDownload { .. } => false,
-            Awaiting::EndBlockDownload => true,
+            _ => false,
         }
     }
 

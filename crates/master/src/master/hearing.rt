@@ -32,9 +32,8 @@ impl Master {
         ensures { Follows (hear_in (shown self.old) self.old.phase frame) self.new result }
     {
         match self.phase {
-            Phase::Idle => self.stay(Heard::Dropped),
             Phase::Open(awaiting) => self.hear_open(awaiting, frame),
-            Phase::Over(_) => self.stay(Heard::Dropped),
+            Phase::Idle | Phase::Over(_) => self.stay(Heard::Dropped),
         }
     }
 
@@ -42,7 +41,7 @@ impl Master {
     fn hear_open(&mut self, awaiting: Awaiting, frame: Frame) -> Hearing
         ensures { Follows (hear_open (shown self.old) awaiting frame) self.new result }
     {
-        if frame.identifier.number() != Identifier::of_answers(self.node).number() {
+        if frame.identifier != Identifier::of_answers(self.node) {
             return self.stay(Heard::Dropped);
         }
         match Answer::from_bytes(frame.bytes) {

@@ -24,9 +24,8 @@ impl Master {
         ensures { Ticks (tick_in (shown self.old) self.old.phase) self.new result }
     {
         match self.phase {
-            Phase::Idle => self.relax(),
             Phase::Open(awaiting) => self.wait(awaiting),
-            Phase::Over(_) => self.relax(),
+            Phase::Idle | Phase::Over(_) => self.relax(),
         }
     }
 
@@ -53,9 +52,7 @@ impl Master {
         ensures { Ticks (rested (shown self.old)) self.new result }
     {
         let quiet = self.rest == 1;
-        if self.rest > 0 {
-            self.rest -= 1;
-        }
+        self.rest = self.rest.saturating_sub(1);
         Tick {
             ended: false,
             sending: Sending {
@@ -70,9 +67,8 @@ impl Master {
         ensures { Parts (give_up (shown self.old)) self.new result }
     {
         match self.phase {
-            Phase::Idle => SILENCE,
             Phase::Open(awaiting) => self.abandon(awaiting, AbortCode::GeneralError),
-            Phase::Over(_) => SILENCE,
+            Phase::Idle | Phase::Over(_) => SILENCE,
         }
     }
 }
