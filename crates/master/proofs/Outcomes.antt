@@ -39,25 +39,18 @@ by_phase P i o v s = elim s.phase as (λ p. P (in_phase p s)) [ Idle ↦ i s | O
 
 -- what a write awaits; a sub-block has at most 127 segments
 abbrev pub Writes : Awaiting → Type 0
-Writes awaiting.ExpeditedDownload = Unit {0}
-Writes awaiting.InitiateDownload = Unit {0}
-Writes (awaiting.DownloadSegment t k) = Unit {0}
 Writes awaiting.InitiateUpload = ⊥
 Writes (awaiting.UploadSegment t size) = ⊥
-Writes awaiting.InitiateBlockDownload = Unit {0}
 Writes (awaiting.BlockDownload x) = x.count ≤ 127
-Writes awaiting.EndBlockDownload = Unit {0}
+Writes w = Unit {0}
 
 -- how many frames a write can still send: each segment once, up to 127 again for each sub-block that may fall short, an end and an abort
 abbrev pub room : List ℕ → Awaiting → ℕ
-room v awaiting.ExpeditedDownload = 1
 room v awaiting.InitiateDownload = segments v + 2
 room v (awaiting.DownloadSegment t k) = segments v - k + 1
-room v awaiting.InitiateUpload = 1
-room v (awaiting.UploadSegment t size) = 1
 room v awaiting.InitiateBlockDownload = segments v + 9 * 127 + 2
 room v (awaiting.BlockDownload x) = segments v - (x.acknowledged + x.count) + (9 - x.short) * 127 + 2
-room v awaiting.EndBlockDownload = 1
+room v w = 1
 
 pub record Paid (s : State) (w u : Awaiting) (v : List ℕ) (fs : List Frame) : Type 0 where
   pub same-value : v ≡ s.value
@@ -124,12 +117,7 @@ module _ (s : State) where
   initiate_download : (w : Awaiting) (m : Multiplexor) → Outcome s w (Some (answer.InitiateDownload m)) (hear_initiate_download s w m)
   initiate_download awaiting.ExpeditedDownload m = started_outcome awaiting.ExpeditedDownload m _ (done s s.value) (λ e. succeeded (answer.InitiateDownload m) s.value refl (written_at_once m e))
   initiate_download awaiting.InitiateDownload m = started_outcome awaiting.InitiateDownload m _ (send_segment s Zero 1) (λ _. goes_on _ _ _ _ (omega arith) (λ _. record { same-value = refl; writes = tt; pays = omega arith }))
-  initiate_download (awaiting.DownloadSegment t k) m = ended UnknownCommand
-  initiate_download awaiting.InitiateUpload m = ended UnknownCommand
-  initiate_download (awaiting.UploadSegment t size) m = ended UnknownCommand
-  initiate_download awaiting.InitiateBlockDownload m = ended UnknownCommand
-  initiate_download (awaiting.BlockDownload x) m = ended UnknownCommand
-  initiate_download awaiting.EndBlockDownload m = ended UnknownCommand
+  initiate_download w m = ended UnknownCommand
 
   segment_outcome : (t u : Toggle) (k : ℕ) → t ≡ u → Outcome s (awaiting.DownloadSegment t k) (Some (answer.DownloadSegment u)) (segment_taken s t k)
   segment_outcome t u k same_bit =
@@ -140,14 +128,8 @@ module _ (s : State) where
       goes_on _ _ _ _ (omega arith) (λ _. record { same-value = refl; writes = tt; pays = omega arith }))
 
   download_segment : (w : Awaiting) (u : Toggle) → Outcome s w (Some (answer.DownloadSegment u)) (hear_download_segment s w u)
-  download_segment awaiting.ExpeditedDownload u = ended UnknownCommand
-  download_segment awaiting.InitiateDownload u = ended UnknownCommand
   download_segment (awaiting.DownloadSegment t k) u = toggled_outcome (awaiting.DownloadSegment t k) t u _ (segment_taken s t k) (λ e. segment_outcome t u k e)
-  download_segment awaiting.InitiateUpload u = ended UnknownCommand
-  download_segment (awaiting.UploadSegment t size) u = ended UnknownCommand
-  download_segment awaiting.InitiateBlockDownload u = ended UnknownCommand
-  download_segment (awaiting.BlockDownload x) u = ended UnknownCommand
-  download_segment awaiting.EndBlockDownload u = ended UnknownCommand
+  download_segment w u = ended UnknownCommand
 
   upload_outcome : (m : Multiplexor) (how : Transfer) → same m s.multiplexor ≡ true → Outcome s awaiting.InitiateUpload (Some (answer.InitiateUpload m how)) (upload_started s awaiting.InitiateUpload how)
   upload_outcome m (Expedited v) e = succeeded (answer.InitiateUpload m (Expedited v)) v refl (read_at_once m v e)
@@ -157,14 +139,8 @@ module _ (s : State) where
       (λ _. ended OutOfMemory)
 
   initiate_upload : (w : Awaiting) (m : Multiplexor) (how : Transfer) → Outcome s w (Some (answer.InitiateUpload m how)) (hear_initiate_upload s w m how)
-  initiate_upload awaiting.ExpeditedDownload m how = ended UnknownCommand
-  initiate_upload awaiting.InitiateDownload m how = ended UnknownCommand
-  initiate_upload (awaiting.DownloadSegment t k) m how = ended UnknownCommand
   initiate_upload awaiting.InitiateUpload m how = started_outcome awaiting.InitiateUpload m _ (upload_started s awaiting.InitiateUpload how) (λ e. upload_outcome m how e)
-  initiate_upload (awaiting.UploadSegment t size) m how = ended UnknownCommand
-  initiate_upload awaiting.InitiateBlockDownload m how = ended UnknownCommand
-  initiate_upload (awaiting.BlockDownload x) m how = ended UnknownCommand
-  initiate_upload awaiting.EndBlockDownload m how = ended UnknownCommand
+  initiate_upload w m how = ended UnknownCommand
 
   read_outcome : (t u : Toggle) (size : Option ℕ) (x v : List ℕ) (last : Bool) → t ≡ u → Outcome s (awaiting.UploadSegment t size) (Some (answer.UploadSegment u x last)) (read_on s (awaiting.UploadSegment t size) t size last v)
   read_outcome t u size x v true same_bit =
@@ -184,44 +160,20 @@ module _ (s : State) where
       (λ _. goes_on _ _ _ _ (omega arith) (λ no_write. absurd no_write))
 
   upload_segment : (w : Awaiting) (u : Toggle) (x : List ℕ) (last : Bool) → Outcome s w (Some (answer.UploadSegment u x last)) (hear_upload_segment s w u x last)
-  upload_segment awaiting.ExpeditedDownload u x last = ended UnknownCommand
-  upload_segment awaiting.InitiateDownload u x last = ended UnknownCommand
-  upload_segment (awaiting.DownloadSegment t k) u x last = ended UnknownCommand
-  upload_segment awaiting.InitiateUpload u x last = ended UnknownCommand
   upload_segment (awaiting.UploadSegment t size) u x last = toggled_outcome (awaiting.UploadSegment t size) t u _ (read_on s (awaiting.UploadSegment t size) t size last (s.value ++ x)) (λ e. read_outcome t u size x (s.value ++ x) last e)
-  upload_segment awaiting.InitiateBlockDownload u x last = ended UnknownCommand
-  upload_segment (awaiting.BlockDownload y) u x last = ended UnknownCommand
-  upload_segment awaiting.EndBlockDownload u x last = ended UnknownCommand
+  upload_segment w u x last = ended UnknownCommand
 
   initiate_block : (w : Awaiting) (m : Multiplexor) (c : CrcOffer) (n : ℕ) → Outcome s w (Some (answer.InitiateBlockDownload m c n)) (hear_initiate_block s w m c n)
-  initiate_block awaiting.ExpeditedDownload m c n = ended UnknownCommand
-  initiate_block awaiting.InitiateDownload m c n = ended UnknownCommand
-  initiate_block (awaiting.DownloadSegment t k) m c n = ended UnknownCommand
-  initiate_block awaiting.InitiateUpload m c n = ended UnknownCommand
-  initiate_block (awaiting.UploadSegment t size) m c n = ended UnknownCommand
   initiate_block awaiting.InitiateBlockDownload m c n = started_outcome awaiting.InitiateBlockDownload m _ (block_started s awaiting.InitiateBlockDownload c n) (λ _. sized awaiting.InitiateBlockDownload _ n (go_on s c n 0 0) (λ low high. go_on_outcome awaiting.InitiateBlockDownload _ c n 0 0 low high (λ _. omega arith)))
-  initiate_block (awaiting.BlockDownload x) m c n = ended UnknownCommand
-  initiate_block awaiting.EndBlockDownload m c n = ended UnknownCommand
+  initiate_block w m c n = ended UnknownCommand
 
   acknowledgement : (w : Awaiting) (a n : ℕ) → Outcome s w (Some (answer.AcknowledgeBlock a n)) (hear_acknowledgement s w a n)
-  acknowledgement awaiting.ExpeditedDownload a n = ended UnknownCommand
-  acknowledgement awaiting.InitiateDownload a n = ended UnknownCommand
-  acknowledgement (awaiting.DownloadSegment t k) a n = ended UnknownCommand
-  acknowledgement awaiting.InitiateUpload a n = ended UnknownCommand
-  acknowledgement (awaiting.UploadSegment t size) a n = ended UnknownCommand
-  acknowledgement awaiting.InitiateBlockDownload a n = ended UnknownCommand
   acknowledgement (awaiting.BlockDownload x) a n = sized (awaiting.BlockDownload x) _ n (kept s x a n) (λ low high. kept_outcome _ x a n low high)
-  acknowledgement awaiting.EndBlockDownload a n = ended UnknownCommand
+  acknowledgement w a n = ended UnknownCommand
 
   end_answer : (w : Awaiting) → Outcome s w (Some answer.EndBlockDownload) (hear_end s w)
-  end_answer awaiting.ExpeditedDownload = ended UnknownCommand
-  end_answer awaiting.InitiateDownload = ended UnknownCommand
-  end_answer (awaiting.DownloadSegment t k) = ended UnknownCommand
-  end_answer awaiting.InitiateUpload = ended UnknownCommand
-  end_answer (awaiting.UploadSegment t size) = ended UnknownCommand
-  end_answer awaiting.InitiateBlockDownload = ended UnknownCommand
-  end_answer (awaiting.BlockDownload x) = ended UnknownCommand
   end_answer awaiting.EndBlockDownload = succeeded answer.EndBlockDownload s.value refl block_closed
+  end_answer w = ended UnknownCommand
 
   answered_outcome : (w : Awaiting) (a : Answer) → Outcome s w (Some a) (answered s w a)
   answered_outcome w (answer.InitiateDownload m) = initiate_download w m

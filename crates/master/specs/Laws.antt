@@ -12,7 +12,7 @@ use Rattle.sdo.specs.Answers as answer
 use Rattle.master.specs.declared.heard.Heard.TheVariants as heard
 use Rattle.master.specs.declared.method.Method.{Method}
 use Rattle.master.specs.declared.phase.Phase.{Phase}
-use Rattle.master.specs.declared.phase.Phase.TheVariants.{Idle, Open, Over}
+use Rattle.master.specs.declared.phase.Phase.TheVariants.{Open, Over}
 use Rattle.master.specs.declared.phase.Awaiting.{Awaiting}
 use Rattle.master.specs.declared.phase.Awaiting.TheVariants as awaiting
 use Rattle.master.specs.declared.phase.Ending.TheVariants.{Done, Failed}
@@ -26,9 +26,8 @@ use Rattle.master.specs.Calls.{Order, Write, Started, not_cleared, begin, tick}
 use Rattle.master.specs.Runs.{Call, after, Run}
 
 abbrev pub is_open : Phase → Bool
-is_open Idle = false
 is_open (Open w) = true
-is_open (Over e) = false
+is_open p = false
 
 -- from the begin of a write to the next begin the master sends at most 1,300 frames, its start and its abort too
 abbrev pub RepeatsAreBounded : Type 0

@@ -222,9 +222,8 @@ module _ (s : State) where
 
   -- and so is every frame where no transfer is open
   abbrev pub hear_in : Phase → Frame → Step
-  hear_in phase.Idle f = unmoved s heard.Dropped
   hear_in (phase.Open w) f = hear_open w f
-  hear_in (phase.Over e) f = unmoved s heard.Dropped
+  hear_in p f = unmoved s heard.Dropped
 
   abbrev pub take_in : Option Frame → Step
   take_in None = unmoved s heard.NothingWaited
