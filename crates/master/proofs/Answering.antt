@@ -1,5 +1,5 @@
 -- Success is told only after the last answer, and an abort that is heard ends the transfer.
-use Rattle.std.proofs.Common.{◌≡◌, ℕ, Some, Option, sym, ap, ◌∙◌, arith}
+use Rattle.std.proofs.Common.{◌≡◌, Some, Option, sym, ap, ◌∙◌}
 use Rattle.wire.specs.declared.frame.Frame.{Frame}
 use Rattle.wire.specs.declared.multiplexor.Multiplexor.{Multiplexor}
 use Rattle.wire.specs.declared.abort_code.AbortCode.{AbortCode}
@@ -18,9 +18,9 @@ use Rattle.master.proofs.Addressing.{addressed}
 
 finished_by : {s : State} {w : Awaiting} {o : Option Answer} {p : Step} → Outcome s w o p → p.next.phase ≡ Over Done → (a : Answer) × ((o ≡ Some a) × Finishes s w a)
 unfolding found told
-finished_by (goes_on u h v fs some paid) e = let z : ◌≡◌ {A = ℕ} 0 1 = cc in absurd (omega arith)
-finished_by (ended c) e = let z : ◌≡◌ {A = ℕ} 0 1 = cc in absurd (omega arith)
-finished_by (was_told c) e = let z : ◌≡◌ {A = ℕ} 0 1 = cc in absurd (omega arith)
+finished_by (goes_on u h v fs some paid) e = cc
+finished_by (ended c) e = cc
+finished_by (was_told c) e = cc
 finished_by (succeeded a v is fin) e = (a, (is, fin))
 
 answered_by : {s : State} {f : Option Frame} {p : Step} → HeardAs s f p → p.heard ≡ heard.Over → p.next.phase ≡ Over Done → (g : Frame) × ((f ≡ Some g) × Awaited s g)

@@ -119,7 +119,7 @@ fitting-length : (m : Multiplexor) (how : Method) (v : List ℕ) (y : Request) �
 fitting-length m how v y =
     cond_both (is_length (length v)) (cond (fits_start how v) (Ok (write_start m how v)) (Err NotExpedited)) (Err ValueLength) (λ q. q ≡ Ok y → length v ≤ 1024)
     (λ e _. leb-true (length v) 1024 (and_parts (leb 1 (length v)) (leb (length v) 1024) e).1)
-    (λ _ e. let z : ◌≡◌ {A = ℕ} 0 1 = cc in absurd (omega arith))
+    (λ _ e. cc)
 
 run_from : (s t u : State) (m : Multiplexor) (how : Method) (v : List ℕ) (fs : List Frame) (n : ℕ) → u ≡ opened s m (write_awaited how) v → length v ≤ 1024 → Run u fs n t → length fs ≤ 1292
 run_from s t u m how v fs n is h run =

@@ -195,10 +195,10 @@ pub data HeardAs (s : State) (f : Option Frame) : Step → Type 0 where
   answers : {p : Step} (w : Awaiting) (g : Frame) → s.phase ≡ Open w → f ≡ Some g → g.identifier.number ≡ (answer_identifier s.node).number → Outcome s w (answer_in g.bytes) p → HeardAs s f p
 
 nothing : (s : State) (f : Option Frame) → HeardAs s f (unmoved s heard.NothingWaited)
-nothing s f = stays heard.NothingWaited (λ e. let z : ◌≡◌ {A = ℕ} 0 1 = cc in omega arith) (λ e. let z : ◌≡◌ {A = ℕ} 0 1 = cc in omega arith)
+nothing s f = stays heard.NothingWaited (λ e. cc) (λ e. cc)
 
 dropped : (s : State) (f : Option Frame) → HeardAs s f (unmoved s heard.Dropped)
-dropped s f = stays heard.Dropped (λ e. let z : ◌≡◌ {A = ℕ} 0 1 = cc in omega arith) (λ e. let z : ◌≡◌ {A = ℕ} 0 1 = cc in omega arith)
+dropped s f = stays heard.Dropped (λ e. cc) (λ e. cc)
 
 heard_open : (w : Awaiting) (s : State) (g : Frame) → s.phase ≡ Open w → HeardAs s (Some g) (hear_open s w g)
 heard_open w s g own =
@@ -218,14 +218,14 @@ hear_outcome s (Some g) =
 
 -- a begin that was accepted, and one that was refused
 pub accepted_as : (r : Result (Unit {0}) BeginRefusal) (q : Result Request BeginRefusal) (s : State) (m : Multiplexor) (o : Order) (x : Started) → (begin_if r q s m o).answer ≡ Ok x → (y : Request) × (((begin_if r q s m o).next ≡ opened s m (first_awaited o) (ordered o)) × ((x ≡ starting s y) × (q ≡ Ok y)))
-accepted_as (Err e) q s m o x said = let z : ◌≡◌ {A = ℕ} 0 1 = cc in absurd (omega arith)
-accepted_as (Ok u) (Err e) s m o x said = let z : ◌≡◌ {A = ℕ} 0 1 = cc in absurd (omega arith)
+accepted_as (Err e) q s m o x said = cc
+accepted_as (Ok u) (Err e) s m o x said = cc
 accepted_as (Ok u) (Ok y) s m o x said = (y, (refl, (cc, refl)))
 
 pub refused_as : (r : Result (Unit {0}) BeginRefusal) (q : Result Request BeginRefusal) (s : State) (m : Multiplexor) (o : Order) → accepted (begin_if r q s m o).answer ≡ false → ((begin_if r q s m o).next ≡ s) × (started_frames (begin_if r q s m o).answer ≡ [])
 refused_as (Err e) q s m o no_start = (refl, refl)
 refused_as (Ok u) (Err e) s m o no_start = (refl, refl)
-refused_as (Ok u) (Ok y) s m o no_start = let z : ◌≡◌ {A = ℕ} 0 1 = cc in absurd (omega arith)
+refused_as (Ok u) (Ok y) s m o no_start = cc
 
 -- the two ways of a tick in an open transfer
 abbrev pub waits_on : Awaiting → State → Ticking
