@@ -8,7 +8,6 @@ use Rattle.master.specs.declared.sending.Hearing.{Hearing}
 use Rattle.master.specs.declared.sending.Tick.{Tick}
 use Rattle.master.specs.declared.sending.Sending as declared
 use Rattle.master.specs.declared.master.Master.{Master}
-use Rattle.master.specs.Values.{shown_value}
 use Rattle.master.specs.States.{State}
 use Rattle.master.specs.Sendings.{shown_sending}
 use Rattle.master.specs.Steps.{Step}
@@ -20,7 +19,7 @@ shown m = record {
   begun = m.begun;
   phase = m.phase;
   multiplexor = m.multiplexor;
-  value = shown_value m.value;
+  value = m.value.items;
   highest = m.highest;
   ticks = m.ticks;
   rest = m.rest;

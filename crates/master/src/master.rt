@@ -1,6 +1,5 @@
 //! A master: the SDO client of CiA 301, which carries out one transfer at a time.
 ghost use Rattle.std.specs.Prelude.{◌≡◌};
-ghost use Rattle.master.specs.Values.{shown_value};
 ghost use Rattle.master.specs.States.{fresh, clear, ending_in};
 ghost use Rattle.master.specs.Shown.{shown};
 
@@ -62,9 +61,9 @@ impl Master {
 
     /// The bytes that the latest transfer has read, or the value that it writes.
     pub fn value(&self) -> &[u8]
-        ensures { result.now ≡ shown_value self.now.value }
+        ensures { result.now ≡ self.now.value.items }
     {
-        self.value.bytes()
+        &self.value
     }
 
     /// Clears a transfer that is over; an open one stays.

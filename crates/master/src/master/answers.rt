@@ -8,6 +8,7 @@ ghost use Rattle.master.specs.Shown.{shown, Follows};
 use super::Master;
 use crate::phase::Awaiting;
 use crate::sending::Hearing;
+use crate::value::is_last;
 use sdo::{Answer, CrcOffer, SegmentData, Toggle, Transfer};
 use wire::{AbortCode, Multiplexor};
 
@@ -73,7 +74,7 @@ impl Master {
     fn take_segment(&mut self, toggle: Toggle, number: u16) -> Hearing
         ensures { Follows (segment_taken (shown self.old) toggle number) self.new result }
     {
-        if self.value.is_last(number as usize) {
+        if is_last(&self.value, number as usize) {
             self.succeed()
         } else {
             self.send_segment(toggle.other(), number + 1)

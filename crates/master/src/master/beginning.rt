@@ -11,7 +11,7 @@ use crate::method::Method;
 use crate::phase::{Awaiting, Phase};
 use crate::refusal::BeginRefusal;
 use crate::sending::{Batch, Begun, Sending};
-use crate::value::Value;
+use crate::value::{CAPACITY, Value};
 use sdo::{CrcOffer, ExpeditedData, Request, Transfer};
 use wire::Multiplexor;
 
@@ -37,7 +37,7 @@ impl Master {
     {
         self.free()?;
         let start = write_start(method, multiplexor, value)?;
-        self.value = Value::of(value);
+        self.value = Value::try_from(value).unwrap();
         Ok(self.open(multiplexor, write_awaited(method), start))
     }
 
@@ -81,7 +81,7 @@ fn write_start(
 ) -> Result<Request, BeginRefusal>
     ensures { shown_start result ≡ start_of multiplexor (Write method value.now) }
 {
-    if value.len() < 1 || value.len() > 1024 {
+    if value.is_empty() || value.len() > CAPACITY {
         return Err(BeginRefusal::ValueLength);
     }
     let size = Some(value.len() as u32);

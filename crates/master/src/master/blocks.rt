@@ -6,6 +6,7 @@ ghost use Rattle.master.specs.Shown.{shown, Follows};
 use super::Master;
 use crate::phase::{Awaiting, SubBlock};
 use crate::sending::{Batch, Hearing};
+use crate::value::{closing_crc, segments, unused};
 use sdo::{BlockSize, CrcOffer, Request};
 use wire::AbortCode;
 
@@ -72,7 +73,7 @@ impl Master {
     fn go_on(&mut self, crc: CrcOffer, size: BlockSize, acknowledged: usize, short: u8) -> Hearing
         ensures { Follows (go_on (shown self.old) crc size.number acknowledged short) self.new result }
     {
-        let segments = self.value.segments();
+        let segments = segments(&self.value);
         if segments <= acknowledged {
             self.send_end(crc)
         } else {
@@ -109,8 +110,8 @@ impl Master {
         ensures { Follows (send_end (shown self.old) crc) self.new result }
     {
         let request = Request::EndBlockDownload {
-            unused: self.value.unused(),
-            crc: self.value.closing_crc(crc),
+            unused: unused(&self.value),
+            crc: closing_crc(&self.value, crc),
         };
         self.send(
             Awaiting::EndBlockDownload,

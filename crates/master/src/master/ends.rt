@@ -1,6 +1,5 @@
 //! How a transfer ends: by success, by an abort that is sent, or by one that was heard (CiA 301, 7.2.4.3.17).
 ghost use Rattle.std.specs.Prelude.{◌≡◌};
-ghost use Rattle.master.specs.Values.{shown_value};
 ghost use Rattle.master.specs.Calls.{Parting};
 ghost use Rattle.master.specs.Steps.{may_have_set, failed, abandoned, parting, found, told, done, unmoved};
 ghost use Rattle.master.specs.Shown.{shown, Follows, Parts};
@@ -9,6 +8,7 @@ use super::Master;
 use crate::heard::Heard;
 use crate::phase::{Awaiting, Ending, Failure, Finder, Phase};
 use crate::sending::{Batch, Hearing, Sending};
+use crate::value::is_last;
 use sdo::Request;
 use wire::AbortCode;
 
@@ -24,7 +24,7 @@ pub(crate) const SILENCE: Sending = Sending {
 impl Master {
     /// The transfer has succeeded.
     pub(crate) fn succeed(&mut self) -> Hearing
-        ensures { Follows (done (shown self.old) (shown_value self.old.value)) self.new result }
+        ensures { Follows (done (shown self.old) self.old.value.items) self.new result }
     {
         self.phase = Phase::Over(Ending::Done);
         Hearing {
@@ -87,11 +87,11 @@ impl Master {
 
     /// Whether the node may have set the value: the frame was sent after which it does.
     fn may_be_set(&self, awaiting: Awaiting) -> bool
-        ensures { result ≡ may_have_set awaiting (shown_value self.now.value) }
+        ensures { result ≡ may_have_set awaiting self.now.value.items }
     {
         match awaiting {
             Awaiting::ExpeditedDownload | Awaiting::EndBlockDownload => true,
-            Awaiting::DownloadSegment { number, .. } => self.value.is_last(number as usize),
+            Awaiting::DownloadSegment { number, .. } => is_last(&self.value, number as usize),
             _ => false,
         }
     }

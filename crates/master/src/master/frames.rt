@@ -2,7 +2,6 @@
 ghost use Rattle.std.specs.Prelude.{◌≡◌, ◌+◌, ◌<◌, ◌≤◌, Some, None};
 ghost use Rattle.std.specs.List.{slice_get};
 ghost use Rattle.sdo.specs.Requests.{shown_request};
-ghost use Rattle.sdo.specs.Segments.{segment};
 ghost use Rattle.master.specs.Sendings.{batch_frames, block_segment, sub_block_of};
 ghost use Rattle.master.specs.Steps.{send, send_segment, ask};
 ghost use Rattle.master.specs.Shown.{shown, Follows};
@@ -11,6 +10,7 @@ use super::Master;
 use crate::heard::Heard;
 use crate::phase::{Awaiting, Phase};
 use crate::sending::{Batch, Hearing, Sending};
+use crate::value::{is_last, padded_segment, segment};
 use sdo::{BlockRequest, BlockSize, Request, SequenceNumber, Toggle};
 use wire::Frame;
 
@@ -58,9 +58,9 @@ impl Master {
     {
         let place = acknowledged as usize + number as usize;
         let request = BlockRequest::Segment {
-            last: self.value.is_last(place),
+            last: is_last(&self.value, place),
             number: SequenceNumber::new(number)?,
-            data: self.value.padded_segment(place),
+            data: padded_segment(&self.value, place),
         };
         Some(request.to_frame(self.node))
     }
@@ -87,8 +87,8 @@ impl Master {
     {
         let request = Request::DownloadSegment {
             toggle,
-            data: self.value.segment(number as usize),
-            last: self.value.is_last(number as usize),
+            data: segment(&self.value, number as usize),
+            last: is_last(&self.value, number as usize),
         };
         self.send(
             Awaiting::DownloadSegment { toggle, number },

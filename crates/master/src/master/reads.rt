@@ -10,7 +10,7 @@ ghost use Rattle.master.specs.Shown.{shown, Follows};
 use super::Master;
 use crate::phase::Awaiting;
 use crate::sending::{Batch, Hearing};
-use crate::value::Value;
+use crate::value::{CAPACITY, Value};
 use sdo::{Request, SegmentData, Toggle, Transfer};
 use wire::AbortCode;
 
@@ -21,7 +21,7 @@ impl Master {
     {
         match transfer {
             Transfer::Expedited { data } => {
-                self.value = Value::of(data.value());
+                self.value = Value::try_from(data.value()).unwrap();
                 self.succeed()
             }
             Transfer::Segmented { size } => self.start_segments(awaiting, size),
@@ -50,8 +50,8 @@ impl Master {
     ) -> Hearing
         ensures { Follows (read_on (shown self.old) (UploadSegment toggle size) toggle size last ((shown self.old).value ++ data_value «data»)) self.new result }
     {
-        let total = self.value.len_with(data);
-        if total > 1024 {
+        let total = self.value.len() + data.value().len();
+        if total > CAPACITY {
             self.find(
                 Awaiting::UploadSegment { toggle, size },
                 AbortCode::OutOfMemory,
@@ -59,7 +59,7 @@ impl Master {
         } else if last {
             self.read_whole(Awaiting::UploadSegment { toggle, size }, size, data)
         } else {
-            self.value.append(data.value());
+            self.value.try_extend_from_slice(data.value()).unwrap();
             self.ask_segment(toggle.other(), size)
         }
     }
@@ -69,13 +69,13 @@ impl Master {
         requires { length ((shown self.old).value ++ data_value «data») ≤ 1024 }
         ensures { Follows (read_whole (shown self.old) awaiting size ((shown self.old).value ++ data_value «data»)) self.new result }
     {
-        let total = self.value.len_with(data);
+        let total = self.value.len() + data.value().len();
         if total < 1 {
             self.find(awaiting, AbortCode::OutOfMemory)
         } else if differs(size, total) {
             self.find(awaiting, AbortCode::LengthMismatch)
         } else {
-            self.value.append(data.value());
+            self.value.try_extend_from_slice(data.value()).unwrap();
             self.succeed()
         }
     }
@@ -99,7 +99,7 @@ fn may_come(size: Option<u32>) -> bool
 {
     match size {
         None => true,
-        Some(size) => size >= 1 && size <= 1024,
+        Some(size) => size >= 1 && size as usize <= CAPACITY,
     }
 }
 
