@@ -3,7 +3,7 @@ ghost use Rattle.sdo.specs.Answers.{shown_answer};
 ghost use Rattle.sdo.specs.Segments.{data_value};
 ghost use Rattle.sdo.specs.Transfers.{shown_transfer};
 ghost use Rattle.master.specs.Steps.{segment_taken, hear_initiate_download, hear_download_segment, hear_initiate_upload, hear_upload_segment, hear_initiate_block, hear_acknowledgement, hear_end, answered};
-ghost use Rattle.master.specs.Shown.{shown, Follows};
+ghost use Rattle.master.specs.Shown.{Follows};
 
 use super::Master;
 use crate::phase::Awaiting;
@@ -15,7 +15,7 @@ use wire::{AbortCode, Multiplexor};
 impl Master {
     /// Any answer.
     pub(crate) fn answer(&mut self, awaiting: Awaiting, answer: Answer) -> Hearing
-        ensures { Follows (answered (shown self.old) awaiting (shown_answer answer)) self.new result }
+        ensures { Follows (answered self.old awaiting (shown_answer answer)) self.new result }
     {
         match answer {
             Answer::InitiateDownload { multiplexor } => {
@@ -45,7 +45,7 @@ impl Master {
 
     /// The answer to the start of a write.
     fn hear_initiate_download(&mut self, awaiting: Awaiting, multiplexor: Multiplexor) -> Hearing
-        ensures { Follows (hear_initiate_download (shown self.old) awaiting multiplexor) self.new result }
+        ensures { Follows (hear_initiate_download self.old awaiting multiplexor) self.new result }
     {
         match awaiting {
             Awaiting::ExpeditedDownload if multiplexor == self.multiplexor => self.succeed(),
@@ -58,7 +58,7 @@ impl Master {
 
     /// The answer to a segment of a write.
     fn hear_download_segment(&mut self, awaiting: Awaiting, toggle: Toggle) -> Hearing
-        ensures { Follows (hear_download_segment (shown self.old) awaiting toggle) self.new result }
+        ensures { Follows (hear_download_segment self.old awaiting toggle) self.new result }
     {
         match awaiting {
             Awaiting::DownloadSegment {
@@ -72,7 +72,7 @@ impl Master {
 
     /// A segment of a write was taken: the next one goes, and after the last one the transfer has succeeded.
     fn take_segment(&mut self, toggle: Toggle, number: u16) -> Hearing
-        ensures { Follows (segment_taken (shown self.old) toggle number) self.new result }
+        ensures { Follows (segment_taken self.old toggle number) self.new result }
     {
         if is_last(&self.value, number as usize) {
             self.succeed()
@@ -88,7 +88,7 @@ impl Master {
         multiplexor: Multiplexor,
         transfer: Transfer,
     ) -> Hearing
-        ensures { Follows (hear_initiate_upload (shown self.old) awaiting multiplexor (shown_transfer transfer)) self.new result }
+        ensures { Follows (hear_initiate_upload self.old awaiting multiplexor (shown_transfer transfer)) self.new result }
     {
         match awaiting {
             Awaiting::InitiateUpload if multiplexor == self.multiplexor => {
@@ -106,7 +106,7 @@ impl Master {
         data: SegmentData,
         last: bool,
     ) -> Hearing
-        ensures { Follows (hear_upload_segment (shown self.old) awaiting toggle (data_value «data») last) self.new result }
+        ensures { Follows (hear_upload_segment self.old awaiting toggle (data_value «data») last) self.new result }
     {
         match awaiting {
             Awaiting::UploadSegment {
@@ -126,7 +126,7 @@ impl Master {
         crc: CrcOffer,
         block_size: u8,
     ) -> Hearing
-        ensures { Follows (hear_initiate_block (shown self.old) awaiting multiplexor crc block_size) self.new result }
+        ensures { Follows (hear_initiate_block self.old awaiting multiplexor crc block_size) self.new result }
     {
         match awaiting {
             Awaiting::InitiateBlockDownload if multiplexor == self.multiplexor => {
@@ -138,7 +138,7 @@ impl Master {
 
     /// The acknowledgement of a sub-block.
     fn hear_acknowledgement(&mut self, awaiting: Awaiting, last_kept: u8, block_size: u8) -> Hearing
-        ensures { Follows (hear_acknowledgement (shown self.old) awaiting last_kept block_size) self.new result }
+        ensures { Follows (hear_acknowledgement self.old awaiting last_kept block_size) self.new result }
     {
         match awaiting {
             Awaiting::BlockDownload(sub_block) => {
@@ -150,7 +150,7 @@ impl Master {
 
     /// The answer to the end of a block write.
     fn hear_end(&mut self, awaiting: Awaiting) -> Hearing
-        ensures { Follows (hear_end (shown self.old) awaiting) self.new result }
+        ensures { Follows (hear_end self.old awaiting) self.new result }
     {
         match awaiting {
             Awaiting::EndBlockDownload => self.succeed(),

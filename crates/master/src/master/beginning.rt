@@ -4,7 +4,7 @@ ghost use Rattle.master.specs.declared.refusal.BeginRefusal.TheVariants.{NotExpe
 ghost use Rattle.sdo.specs.Requests.{shown_request, InitiateDownload};
 ghost use Rattle.sdo.specs.Transfers.{Expedited};
 ghost use Rattle.master.specs.Calls.{Read, Write, start as start_of, write_awaited, free, opened, starting, begin};
-ghost use Rattle.master.specs.Shown.{shown, shown_start, Begins};
+ghost use Rattle.master.specs.Shown.{shown_start, Begins};
 
 use super::Master;
 use crate::method::Method;
@@ -18,7 +18,7 @@ use wire::Multiplexor;
 impl Master {
     /// Begins a read, or says why not.
     pub fn begin_read(&mut self, multiplexor: Multiplexor) -> Result<Begun, BeginRefusal>
-        ensures { Begins (begin (shown self.old) multiplexor Read) self.new result }
+        ensures { Begins (begin self.old multiplexor Read) self.new result }
     {
         self.free()?;
         self.value = Value::new();
@@ -33,7 +33,7 @@ impl Master {
         multiplexor: Multiplexor,
         value: &[u8],
     ) -> Result<Begun, BeginRefusal>
-        ensures { Begins (begin (shown self.old) multiplexor (Write method value.now)) self.new result }
+        ensures { Begins (begin self.old multiplexor (Write method value.now)) self.new result }
     {
         self.free()?;
         let start = write_start(method, multiplexor, value)?;
@@ -43,7 +43,7 @@ impl Master {
 
     /// Whether nothing speaks against a transfer, or what does.
     fn free(&self) -> Result<(), BeginRefusal>
-        ensures { result ≡ free (shown self.now) }
+        ensures { result ≡ free self.now }
     {
         match self.phase {
             Phase::Open(_) | Phase::Over(_) => Err(BeginRefusal::NotCleared),
@@ -56,7 +56,7 @@ impl Master {
     /// Opens the next transfer by its start.
     fn open(&mut self, multiplexor: Multiplexor, awaiting: Awaiting, start: Request) -> Begun
         requires { self.old.begun < 65535 }
-        ensures { Begins (record { next = opened (shown self.old) multiplexor awaiting (shown self.old).value; answer = Ok (starting (shown self.old) (shown_request start)) }) self.new (Ok result) }
+        ensures { Begins (record { next = opened self.old multiplexor awaiting self.old.value; answer = Ok (starting self.old (shown_request start)) }) self.new (Ok result) }
     {
         self.begun += 1;
         self.phase = Phase::Open(awaiting);

@@ -2,7 +2,7 @@
 ghost use Rattle.std.specs.Prelude.{◌≡◌};
 ghost use Rattle.master.specs.Calls.{Parting};
 ghost use Rattle.master.specs.Steps.{may_have_set, failed, abandoned, parting, found, told, done, unmoved};
-ghost use Rattle.master.specs.Shown.{shown, Follows, Parts};
+ghost use Rattle.master.specs.Shown.{Follows, Parts};
 
 use super::Master;
 use crate::heard::Heard;
@@ -24,7 +24,7 @@ pub(crate) const SILENCE: Sending = Sending {
 impl Master {
     /// The transfer has succeeded.
     pub(crate) fn succeed(&mut self) -> Hearing
-        ensures { Follows (done (shown self.old) self.old.value.items) self.new result }
+        ensures { Follows (done self.old self.old.value) self.new result }
     {
         self.phase = Phase::Over(Ending::Done);
         Hearing {
@@ -35,7 +35,7 @@ impl Master {
 
     /// The master has found a reason to end the transfer.
     pub(crate) fn find(&mut self, awaiting: Awaiting, code: AbortCode) -> Hearing
-        ensures { Follows (found (shown self.old) awaiting code) self.new result }
+        ensures { Follows (found self.old awaiting code) self.new result }
     {
         Hearing {
             heard: Heard::Over,
@@ -45,7 +45,7 @@ impl Master {
 
     /// The node has ended the transfer.
     pub(crate) fn end_by_node(&mut self, code: AbortCode) -> Hearing
-        ensures { Follows (told (shown self.old) code) self.new result }
+        ensures { Follows (told self.old code) self.new result }
     {
         self.fail(code, Finder::Node, false);
         Hearing {
@@ -59,7 +59,7 @@ impl Master {
 
     /// Ends the open transfer by an abort.
     pub(crate) fn abandon(&mut self, awaiting: Awaiting, code: AbortCode) -> Sending
-        ensures { Parts (record { next = abandoned awaiting code (shown self.old); sending = parting code (shown self.old) }) self.new result }
+        ensures { Parts (record { next = abandoned awaiting code self.old; sending = parting code self.old }) self.new result }
     {
         let may_be_set = self.may_be_set(awaiting);
         self.fail(code, Finder::Master, may_be_set);
@@ -74,7 +74,7 @@ impl Master {
 
     /// Notes a failure, after which the master rests.
     fn fail(&mut self, code: AbortCode, finder: Finder, may_be_set: bool)
-        ensures { shown self.new ≡ failed code finder may_be_set (shown self.old) }
+        ensures { self.new ≡ failed code finder may_be_set self.old }
     {
         self.phase = Phase::Over(Ending::Failed(Failure {
             code,
@@ -87,7 +87,7 @@ impl Master {
 
     /// Whether the node may have set the value: the frame was sent after which it does.
     fn may_be_set(&self, awaiting: Awaiting) -> bool
-        ensures { result ≡ may_have_set awaiting self.now.value.items }
+        ensures { result ≡ may_have_set awaiting self.now.value }
     {
         match awaiting {
             Awaiting::ExpeditedDownload | Awaiting::EndBlockDownload => true,
@@ -98,7 +98,7 @@ impl Master {
 
     /// Nothing has changed.
     pub(crate) fn stay(&mut self, heard: Heard) -> Hearing
-        ensures { Follows (unmoved (shown self.old) heard) self.new result }
+        ensures { Follows (unmoved self.old heard) self.new result }
     {
         Hearing {
             heard,

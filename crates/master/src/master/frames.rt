@@ -4,7 +4,7 @@ ghost use Rattle.std.specs.List.{slice_get};
 ghost use Rattle.sdo.specs.Requests.{shown_request};
 ghost use Rattle.master.specs.Sendings.{batch_frames, block_segment, sub_block_of};
 ghost use Rattle.master.specs.Steps.{send, send_segment, ask};
-ghost use Rattle.master.specs.Shown.{shown, Follows};
+ghost use Rattle.master.specs.Shown.{Follows};
 
 use super::Master;
 use crate::heard::Heard;
@@ -17,7 +17,7 @@ use wire::Frame;
 impl Master {
     /// The frame at a place of a batch, from 0 on; none past its end.
     pub fn frame(&self, batch: Batch, place: usize) -> Option<Frame>
-        ensures { result ≡ slice_get (batch_frames (shown self.now) batch) place }
+        ensures { result ≡ slice_get (batch_frames self.now batch) place }
     {
         match batch {
             Batch::Nothing => None,
@@ -31,7 +31,7 @@ impl Master {
 
     /// The frame at a place of a message.
     fn message_frame(&self, request: Request, place: usize) -> Option<Frame>
-        ensures { result ≡ slice_get (ask (shown self.now) (shown_request request)) place }
+        ensures { result ≡ slice_get (ask self.now (shown_request request)) place }
     {
         if place == 0 {
             Some(request.to_frame(self.node))
@@ -42,7 +42,7 @@ impl Master {
 
     /// The frame at a place of a sub-block.
     fn sub_block_frame(&self, acknowledged: u16, count: BlockSize, place: usize) -> Option<Frame>
-        ensures { result ≡ slice_get (sub_block_of self.now.node (shown self.now).value acknowledged count.number) place }
+        ensures { result ≡ slice_get (sub_block_of self.now.node self.now.value acknowledged count.number) place }
     {
         if place < count.number() as usize {
             self.block_segment(acknowledged, place as u8 + 1)
@@ -54,7 +54,7 @@ impl Master {
     /// The frame of a segment behind those acknowledged, by its number within the sub-block.
     fn block_segment(&self, acknowledged: u16, number: u8) -> Option<Frame>
         requires { number < 128 }
-        ensures { result ≡ Some (block_segment self.now.node (shown self.now).value acknowledged number) }
+        ensures { result ≡ Some (block_segment self.now.node self.now.value acknowledged number) }
     {
         let place = acknowledged as usize + number as usize;
         let request = BlockRequest::Segment {
@@ -67,7 +67,7 @@ impl Master {
 
     /// Frames are sent, and the next answer is awaited.
     pub(crate) fn send(&mut self, awaiting: Awaiting, highest: u16, batch: Batch) -> Hearing
-        ensures { Follows (send (shown self.old) awaiting highest (shown self.old).value (batch_frames (shown self.old) batch)) self.new result }
+        ensures { Follows (send self.old awaiting highest self.old.value (batch_frames self.old batch)) self.new result }
     {
         self.phase = Phase::Open(awaiting);
         self.highest = highest;
@@ -83,7 +83,7 @@ impl Master {
 
     /// A segment of a write is sent.
     pub(crate) fn send_segment(&mut self, toggle: Toggle, number: u16) -> Hearing
-        ensures { Follows (send_segment (shown self.old) toggle number) self.new result }
+        ensures { Follows (send_segment self.old toggle number) self.new result }
     {
         let request = Request::DownloadSegment {
             toggle,

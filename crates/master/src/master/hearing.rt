@@ -1,6 +1,6 @@
 //! What a master does with a frame, or with none.
 ghost use Rattle.master.specs.Steps.{hear, take_in, hear_in, hear_open};
-ghost use Rattle.master.specs.Shown.{shown, Follows};
+ghost use Rattle.master.specs.Shown.{Follows};
 
 use super::Master;
 use crate::heard::Heard;
@@ -12,14 +12,14 @@ use wire::{AbortCode, Frame, Identifier};
 impl Master {
     /// Takes what the line had for the master.
     pub fn hear(&mut self, taken: Option<Frame>) -> Hearing
-        ensures { Follows (hear (shown self.old) taken) self.new result }
+        ensures { Follows (hear self.old taken) self.new result }
     {
         self.take_in(taken)
     }
 
     /// Takes a frame, or finds none.
     fn take_in(&mut self, taken: Option<Frame>) -> Hearing
-        ensures { Follows (take_in (shown self.old) taken) self.new result }
+        ensures { Follows (take_in self.old taken) self.new result }
     {
         match taken {
             None => self.stay(Heard::NothingWaited),
@@ -29,7 +29,7 @@ impl Master {
 
     /// Takes a frame; without an open transfer it is dropped.
     fn hear_frame(&mut self, frame: Frame) -> Hearing
-        ensures { Follows (hear_in (shown self.old) self.old.phase frame) self.new result }
+        ensures { Follows (hear_in self.old self.old.phase frame) self.new result }
     {
         match self.phase {
             Phase::Open(awaiting) => self.hear_open(awaiting, frame),
@@ -39,7 +39,7 @@ impl Master {
 
     /// Takes a frame in an open transfer; one that is not from the node is dropped.
     fn hear_open(&mut self, awaiting: Awaiting, frame: Frame) -> Hearing
-        ensures { Follows (hear_open (shown self.old) awaiting frame) self.new result }
+        ensures { Follows (hear_open self.old awaiting frame) self.new result }
     {
         if frame.identifier != Identifier::of_answers(self.node) {
             return self.stay(Heard::Dropped);

@@ -5,7 +5,7 @@ ghost use Rattle.sdo.specs.Transfers.{shown_transfer, Segmented};
 ghost use Rattle.master.specs.declared.phase.Awaiting.TheVariants.{UploadSegment};
 ghost use Rattle.master.specs.Values.{may_come, differs};
 ghost use Rattle.master.specs.Steps.{ask_segment, upload_started, read_whole, read_on};
-ghost use Rattle.master.specs.Shown.{shown, Follows};
+ghost use Rattle.master.specs.Shown.{Follows};
 
 use super::Master;
 use crate::phase::Awaiting;
@@ -17,7 +17,7 @@ use wire::AbortCode;
 impl Master {
     /// The node gives the value, or announces it.
     pub(crate) fn start_reading(&mut self, awaiting: Awaiting, transfer: Transfer) -> Hearing
-        ensures { Follows (upload_started (shown self.old) awaiting (shown_transfer transfer)) self.new result }
+        ensures { Follows (upload_started self.old awaiting (shown_transfer transfer)) self.new result }
     {
         match transfer {
             Transfer::Expedited { data } => {
@@ -30,7 +30,7 @@ impl Master {
 
     /// The value comes in segments.
     fn start_segments(&mut self, awaiting: Awaiting, size: Option<u32>) -> Hearing
-        ensures { Follows (upload_started (shown self.old) awaiting (Segmented size)) self.new result }
+        ensures { Follows (upload_started self.old awaiting (Segmented size)) self.new result }
     {
         if may_come(size) {
             self.value = Value::new();
@@ -48,7 +48,7 @@ impl Master {
         data: SegmentData,
         last: bool,
     ) -> Hearing
-        ensures { Follows (read_on (shown self.old) (UploadSegment toggle size) toggle size last ((shown self.old).value ++ data_value «data»)) self.new result }
+        ensures { Follows (read_on self.old (UploadSegment toggle size) toggle size last (self.old.value ++ data_value «data»)) self.new result }
     {
         let total = self.value.len() + data.value().len();
         if total > CAPACITY {
@@ -66,8 +66,8 @@ impl Master {
 
     /// The last segment of the value is there.
     fn read_whole(&mut self, awaiting: Awaiting, size: Option<u32>, data: SegmentData) -> Hearing
-        requires { length ((shown self.old).value ++ data_value «data») ≤ 1024 }
-        ensures { Follows (read_whole (shown self.old) awaiting size ((shown self.old).value ++ data_value «data»)) self.new result }
+        requires { length (self.old.value ++ data_value «data») ≤ 1024 }
+        ensures { Follows (read_whole self.old awaiting size (self.old.value ++ data_value «data»)) self.new result }
     {
         let total = self.value.len() + data.value().len();
         if total < 1 {
@@ -82,7 +82,7 @@ impl Master {
 
     /// One more segment is asked for.
     fn ask_segment(&mut self, toggle: Toggle, size: Option<u32>) -> Hearing
-        ensures { Follows (ask_segment (shown self.old) toggle size (shown self.old).value) self.new result }
+        ensures { Follows (ask_segment self.old toggle size self.old.value) self.new result }
     {
         let highest = self.highest.saturating_add(1);
         self.send(

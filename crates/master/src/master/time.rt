@@ -1,6 +1,6 @@
 //! What a master does in a tick, and at the end of its caller's patience.
 ghost use Rattle.master.specs.Calls.{tick, tick_in, waited, rested, give_up};
-ghost use Rattle.master.specs.Shown.{shown, Ticks, Parts};
+ghost use Rattle.master.specs.Shown.{Ticks, Parts};
 
 use super::Master;
 use super::ends::SILENCE;
@@ -14,14 +14,14 @@ const PATIENCE: u8 = 10;
 impl Master {
     /// Lets a tick pass.
     pub fn tick(&mut self) -> Tick
-        ensures { Ticks (tick (shown self.old)) self.new result }
+        ensures { Ticks (tick self.old) self.new result }
     {
         self.pass_tick()
     }
 
     /// Lets a tick pass, by the phase.
     fn pass_tick(&mut self) -> Tick
-        ensures { Ticks (tick_in (shown self.old) self.old.phase) self.new result }
+        ensures { Ticks (tick_in self.old self.old.phase) self.new result }
     {
         match self.phase {
             Phase::Open(awaiting) => self.wait(awaiting),
@@ -31,7 +31,7 @@ impl Master {
 
     /// One more tick has gone by without an answer.
     fn wait(&mut self, awaiting: Awaiting) -> Tick
-        ensures { Ticks (waited (shown self.old) awaiting) self.new result }
+        ensures { Ticks (waited self.old awaiting) self.new result }
     {
         if self.ticks < PATIENCE - 1 {
             self.ticks += 1;
@@ -49,7 +49,7 @@ impl Master {
 
     /// One more tick of rest has gone by.
     fn relax(&mut self) -> Tick
-        ensures { Ticks (rested (shown self.old)) self.new result }
+        ensures { Ticks (rested self.old) self.new result }
     {
         let quiet = self.rest == 1;
         self.rest = self.rest.saturating_sub(1);
@@ -64,7 +64,7 @@ impl Master {
 
     /// Ends an open transfer.
     pub fn give_up(&mut self) -> Sending
-        ensures { Parts (give_up (shown self.old)) self.new result }
+        ensures { Parts (give_up self.old) self.new result }
     {
         match self.phase {
             Phase::Open(awaiting) => self.abandon(awaiting, AbortCode::GeneralError),
