@@ -22,7 +22,7 @@ use Rattle.master.specs.declared.phase.Phase.TheVariants.{Idle, Open, Over}
 use Rattle.master.specs.declared.phase.Awaiting.{Awaiting}
 use Rattle.master.specs.declared.phase.Awaiting.TheVariants as awaiting
 use Rattle.master.specs.declared.phase.SubBlock.{SubBlock}
-use Rattle.master.specs.declared.phase.Ending.{Ending}
+use Rattle.master.specs.declared.phase.Failure.{Failure}
 use Rattle.master.specs.declared.refusal.BeginRefusal.{BeginRefusal}
 use Rattle.master.specs.Values.{segments, is_last, may_come, differs, is_block_size, same_toggle}
 use Rattle.master.specs.States.{State, in_phase}
@@ -34,7 +34,7 @@ use Rattle.master.specs.Laws.{Finishes, written_at_once, last_taken, read_at_onc
 use Rattle.master.proofs.SubBlocks.{sub_block-length}
 
 -- a state by its phase
-pub by_phase : (P : State → Type 0) → ((s : State) → P (in_phase Idle s)) → ((w : Awaiting) (s : State) → P (in_phase (Open w) s)) → ((e : Ending) (s : State) → P (in_phase (Over e) s)) → (s : State) → P s
+pub by_phase : (P : State → Type 0) → ((s : State) → P (in_phase Idle s)) → ((w : Awaiting) (s : State) → P (in_phase (Open w) s)) → ((e : Result (Unit {0}) Failure) (s : State) → P (in_phase (Over e) s)) → (s : State) → P s
 by_phase P i o v s = elim s.phase as (λ p. P (in_phase p s)) [ Idle ↦ i s | Open w ↦ o w s | Over e ↦ v e s ]
 
 -- what a write awaits; a sub-block has at most 127 segments

@@ -7,7 +7,6 @@ use Rattle.sdo.specs.Requests.{Request}
 use Rattle.sdo.specs.Answers.{Answer}
 use Rattle.master.specs.declared.phase.Phase.TheVariants.{Idle, Open, Over}
 use Rattle.master.specs.declared.phase.Awaiting.{Awaiting}
-use Rattle.master.specs.declared.phase.Ending.TheVariants.{Failed}
 use Rattle.master.specs.declared.phase.Failure.{Failure}
 use Rattle.master.specs.declared.refusal.BeginRefusal.{BeginRefusal}
 use Rattle.master.specs.declared.refusal.BeginRefusal.TheVariants.{NotCleared, Resting, AllBegun, ValueLength, NotExpedited}
@@ -20,44 +19,44 @@ use Rattle.master.specs.Laws.{is_open, JustFailed, by_call, Rests, RestsForThirt
 use Rattle.master.proofs.Outcomes.{by_phase, Outcome, goes_on, ended, was_told, succeeded, HeardAs, stays, answers, hear_outcome, refused_as, waits_on, waits_out}
 
 -- where an open transfer fails, the rest begins
-rest-answered : {s : State} {w : Awaiting} {o : Option Answer} {p : Step} (f : Failure) → Outcome s w o p → p.next.phase ≡ Over (Failed f) → p.next.rest ≡ 30
+rest-answered : {s : State} {w : Awaiting} {o : Option Answer} {p : Step} (f : Failure) → Outcome s w o p → p.next.phase ≡ Over (Err f) → p.next.rest ≡ 30
 unfolding found told
 rest-answered f (goes_on u h v fs some paid) e = cc
 rest-answered f (ended c) e = refl
 rest-answered f (was_told c) e = refl
 rest-answered f (succeeded a v is fin) e = cc
 
-rest-heard : {s : State} {g : Option Frame} {p : Step} (w : Awaiting) (f : Failure) → HeardAs s g p → s.phase ≡ Open w → p.next.phase ≡ Over (Failed f) → p.next.rest ≡ 30
+rest-heard : {s : State} {g : Option Frame} {p : Step} (w : Awaiting) (f : Failure) → HeardAs s g p → s.phase ≡ Open w → p.next.phase ≡ Over (Err f) → p.next.rest ≡ 30
 rest-heard w f (stays h no-over no-sent) own e = cc
 rest-heard w f (answers u g op is from out) own e = rest-answered f out e
 
-rest-begun : (r : Result (Unit {0}) BeginRefusal) (q : Result Request BeginRefusal) (s : State) (m : Multiplexor) (o : Order) (w : Awaiting) (f : Failure) → s.phase ≡ Open w → (begin_if r q s m o).next.phase ≡ Over (Failed f) → (begin_if r q s m o).next.rest ≡ 30
+rest-begun : (r : Result (Unit {0}) BeginRefusal) (q : Result Request BeginRefusal) (s : State) (m : Multiplexor) (o : Order) (w : Awaiting) (f : Failure) → s.phase ≡ Open w → (begin_if r q s m o).next.phase ≡ Over (Err f) → (begin_if r q s m o).next.rest ≡ 30
 rest-begun (Err e) q s m o w f own is = cc
 rest-begun (Ok u) (Err e) s m o w f own is = cc
 rest-begun (Ok u) (Ok y) s m o w f own is = cc
 
-rest_ticked : (s : State) (w : Awaiting) (f : Failure) → s.phase ≡ Open w → (tick s).next.phase ≡ Over (Failed f) → (tick s).next.rest ≡ 30
+rest_ticked : (s : State) (w : Awaiting) (f : Failure) → s.phase ≡ Open w → (tick s).next.phase ≡ Over (Err f) → (tick s).next.rest ≡ 30
 unfolding tick
 rest_ticked s w f =
-    by_phase (λ u. u.phase ≡ Open w → (tick u).next.phase ≡ Over (Failed f) → (tick u).next.rest ≡ 30)
+    by_phase (λ u. u.phase ≡ Open w → (tick u).next.phase ≡ Over (Err f) → (tick u).next.rest ≡ 30)
     (λ u own is. cc)
-    (λ v u own. cond_both (ltb u.ticks 9) (waits_on v u) (waits_out v u) (λ k. k.next.phase ≡ Over (Failed f) → k.next.rest ≡ 30)
+    (λ v u own. cond_both (ltb u.ticks 9) (waits_on v u) (waits_out v u) (λ k. k.next.phase ≡ Over (Err f) → k.next.rest ≡ 30)
     (λ e is. cc)
     (λ e is. refl))
     (λ e u own is. cc)
     s
 
-rest-given_up : (s : State) (w : Awaiting) (f : Failure) → s.phase ≡ Open w → (give_up s).next.phase ≡ Over (Failed f) → (give_up s).next.rest ≡ 30
+rest-given_up : (s : State) (w : Awaiting) (f : Failure) → s.phase ≡ Open w → (give_up s).next.phase ≡ Over (Err f) → (give_up s).next.rest ≡ 30
 rest-given_up s w f =
-    by_phase (λ u. u.phase ≡ Open w → (give_up u).next.phase ≡ Over (Failed f) → (give_up u).next.rest ≡ 30)
+    by_phase (λ u. u.phase ≡ Open w → (give_up u).next.phase ≡ Over (Err f) → (give_up u).next.rest ≡ 30)
     (λ u own is. cc) (λ v u own is. refl) (λ e u own is. cc) s
 
-rest_cleared : (s : State) (w : Awaiting) (f : Failure) → s.phase ≡ Open w → (clear s).phase ≡ Over (Failed f) → (clear s).rest ≡ 30
+rest_cleared : (s : State) (w : Awaiting) (f : Failure) → s.phase ≡ Open w → (clear s).phase ≡ Over (Err f) → (clear s).rest ≡ 30
 rest_cleared s w f =
-    by_phase (λ u. u.phase ≡ Open w → (clear u).phase ≡ Over (Failed f) → (clear u).rest ≡ 30)
+    by_phase (λ u. u.phase ≡ Open w → (clear u).phase ≡ Over (Err f) → (clear u).rest ≡ 30)
     (λ u own is. cc) (λ v u own is. cc) (λ e u own is. cc) s
 
-rest_from : (s : State) (w : Awaiting) (c : Call) (f : Failure) → s.phase ≡ Open w → (after s c).phase ≡ Over (Failed f) → (after s c).rest ≡ 30
+rest_from : (s : State) (w : Awaiting) (c : Call) (f : Failure) → s.phase ≡ Open w → (after s c).phase ≡ Over (Err f) → (after s c).rest ≡ 30
 unfolding begin
 rest_from s w (Begin m o) f own is = rest-begun (free s) (start m o) s m o w f own is
 rest_from s w (Hear g) f own is = rest-heard w f (hear_outcome s g) own is

@@ -1,5 +1,5 @@
 -- What comes of a frame at a master, by the answer that it awaits (CiA 301, 7.2.4.3: each protocol's figure, on the client's side).
-use Rattle.std.specs.Prelude.{ℕ, ◌+◌, ◌-◌, min, max, Bool, true, false, cond, List, [], ◌∷◌, ◌++◌, length, Some, None, Option, ◌==◌, nat_le, nat_lt}
+use Rattle.std.specs.Prelude.{ℕ, ◌+◌, ◌-◌, min, max, Bool, true, false, cond, List, [], ◌∷◌, ◌++◌, length, Some, None, Option, Ok, Err, ◌==◌, nat_le, nat_lt}
 use Rattle.wire.specs.declared.multiplexor.Multiplexor.{Multiplexor}
 use Rattle.wire.specs.declared.abort_code.AbortCode.{AbortCode}
 use Rattle.wire.specs.declared.abort_code.AbortCode.TheVariants.{UnknownCommand, ToggleNotAlternated, LengthMismatch, OutOfMemory, InvalidBlockSize, InvalidSequenceNumber}
@@ -23,7 +23,6 @@ use Rattle.master.specs.declared.phase.Phase.TheVariants as phase
 use Rattle.master.specs.declared.phase.Awaiting.{Awaiting}
 use Rattle.master.specs.declared.phase.Awaiting.TheVariants as awaiting
 use Rattle.master.specs.declared.phase.SubBlock.{SubBlock}
-use Rattle.master.specs.declared.phase.Ending.TheVariants.{Done, Failed}
 use Rattle.master.specs.declared.phase.Finder.{Finder}
 use Rattle.master.specs.declared.phase.Finder.TheVariants.{Master, Node}
 use Rattle.master.specs.Values.{segments, unused, is_last, may_come, differs, is_block_size, closing_crc, same_toggle}
@@ -48,7 +47,7 @@ abbrev pub failed : AbortCode → Finder → Bool → State → State
 failed c who maybe s = record {
   node = s.node;
   begun = s.begun;
-  phase = phase.Over (Failed (record { code = c; finder = who; may_be_set = maybe; segment = s.highest }));
+  phase = phase.Over (Err (record { code = c; finder = who; may_be_set = maybe; segment = s.highest }));
   multiplexor = s.multiplexor;
   value = s.value;
   highest = s.highest;
@@ -76,7 +75,7 @@ told s c = record { next = failed c Node false s; heard = heard.Over; sending = 
 -- the transfer has succeeded, with the value that was written or read
 abbrev pub done : State → List ℕ → Step
 done s v = record {
-  next = record { node = s.node; begun = s.begun; phase = phase.Over Done; multiplexor = s.multiplexor; value = v; highest = s.highest; ticks = s.ticks; rest = s.rest };
+  next = record { node = s.node; begun = s.begun; phase = phase.Over (Ok tt); multiplexor = s.multiplexor; value = v; highest = s.highest; ticks = s.ticks; rest = s.rest };
   heard = heard.Over;
   sending = silence;
 }

@@ -47,14 +47,8 @@ pub struct SubBlock {
     pub short: u8,
 }
 
-/// How a transfer ended.
-#[derive(Clone, Copy)]
-pub enum Ending {
-    /// By success.
-    Done,
-    /// By an abort, sent or heard.
-    Failed(Failure),
-}
+/// How a transfer ended: by success, or by an abort, sent or heard.
+pub type Ending = Result<(), Failure>;
 
 /// Why a transfer failed, and how far it was.
 #[derive(Clone, Copy)]

@@ -1,5 +1,5 @@
 //! What the tests of a master of node 5 have in common.
-use master::{Ending, Failure, Finder, Heard, Master, Method, Sending};
+use master::{Failure, Finder, Heard, Master, Method, Sending};
 use std::process::Abort;
 use std::test::Fail;
 use wire::{AbortCode, Frame, Identifier, Multiplexor, NodeNumber};
@@ -99,7 +99,7 @@ pub(crate) fn check_done(rt: &impl Abort, master: &mut Master, heard: [u8; 8]) -
     assert!(rt; !hearing.sending.quiet);
     assert!(rt; master.frame(hearing.sending.batch, 0).is_none());
     match master.ending() {
-        Some(Ending::Done) => Ok(()),
+        Some(Ok(())) => Ok(()),
         _ => Err(Fail::new("not done")),
     }
 }
@@ -107,7 +107,7 @@ pub(crate) fn check_done(rt: &impl Abort, master: &mut Master, heard: [u8; 8]) -
 /// The failure of a master's transfer.
 pub(crate) fn failure(master: &Master) -> Result<Failure, Fail> {
     match master.ending() {
-        Some(Ending::Failed(failure)) => Ok(failure),
+        Some(Err(failure)) => Ok(failure),
         _ => Err(Fail::new("not failed")),
     }
 }

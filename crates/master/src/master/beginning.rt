@@ -17,6 +17,7 @@ use wire::Multiplexor;
 
 impl Master {
     /// Begins a read, or says why not.
+    #[tactic(auto, unfolding(crate::specs::Calls::begin))]
     pub fn begin_read(&mut self, multiplexor: Multiplexor) -> Result<Begun, BeginRefusal>
         ensures { Begins (begin self.old multiplexor Read) self.new result }
     {
@@ -27,6 +28,7 @@ impl Master {
     }
 
     /// Begins a write of a value, or says why not.
+    #[tactic(auto, unfolding(crate::specs::Calls::begin))]
     pub fn begin_write(
         &mut self,
         method: Method,

@@ -6,7 +6,7 @@ ghost use Rattle.master.specs.Shown.{Follows, Parts};
 
 use super::Master;
 use crate::heard::Heard;
-use crate::phase::{Awaiting, Ending, Failure, Finder, Phase};
+use crate::phase::{Awaiting, Failure, Finder, Phase};
 use crate::sending::{Batch, Hearing, Sending};
 use crate::value::is_last;
 use sdo::Request;
@@ -26,7 +26,7 @@ impl Master {
     pub(crate) fn succeed(&mut self) -> Hearing
         ensures { Follows (done self.old self.old.value) self.new result }
     {
-        self.phase = Phase::Over(Ending::Done);
+        self.phase = Phase::Over(Ok(()));
         Hearing {
             heard: Heard::Over,
             sending: SILENCE,
@@ -34,6 +34,7 @@ impl Master {
     }
 
     /// The master has found a reason to end the transfer.
+    #[tactic(auto, unfolding(crate::specs::Steps::found))]
     pub(crate) fn find(&mut self, awaiting: Awaiting, code: AbortCode) -> Hearing
         ensures { Follows (found self.old awaiting code) self.new result }
     {
@@ -44,6 +45,7 @@ impl Master {
     }
 
     /// The node has ended the transfer.
+    #[tactic(auto, unfolding(crate::specs::Steps::told))]
     pub(crate) fn end_by_node(&mut self, code: AbortCode) -> Hearing
         ensures { Follows (told self.old code) self.new result }
     {
@@ -58,6 +60,7 @@ impl Master {
     }
 
     /// Ends the open transfer by an abort.
+    #[tactic(auto, unfolding(crate::specs::Steps::parting))]
     pub(crate) fn abandon(&mut self, awaiting: Awaiting, code: AbortCode) -> Sending
         ensures { Parts (record { next = abandoned awaiting code self.old; sending = parting code self.old }) self.new result }
     {
@@ -76,7 +79,7 @@ impl Master {
     fn fail(&mut self, code: AbortCode, finder: Finder, may_be_set: bool)
         ensures { self.new ≡ failed code finder may_be_set self.old }
     {
-        self.phase = Phase::Over(Ending::Failed(Failure {
+        self.phase = Phase::Over(Err(Failure {
             code,
             finder,
             may_be_set,

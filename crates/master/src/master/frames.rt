@@ -45,24 +45,24 @@ impl Master {
         ensures { result ≡ slice_get (sub_block_of self.now.node self.now.value acknowledged count.number) place }
     {
         if place < count.number() as usize {
-            self.block_segment(acknowledged, place as u8 + 1)
+            Some(self.block_segment(acknowledged, place as u8 + 1))
         } else {
             None
         }
     }
 
     /// The frame of a segment behind those acknowledged, by its number within the sub-block.
-    fn block_segment(&self, acknowledged: u16, number: u8) -> Option<Frame>
+    fn block_segment(&self, acknowledged: u16, number: u8) -> Frame
         requires { number < 128 }
-        ensures { result ≡ Some (block_segment self.now.node self.now.value acknowledged number) }
+        ensures { result ≡ block_segment self.now.node self.now.value acknowledged number }
     {
         let place = acknowledged as usize + number as usize;
         let request = BlockRequest::Segment {
             last: is_last(&self.value, place),
-            number: SequenceNumber::new(number)?,
+            number: SequenceNumber::new(number).unwrap(),
             data: padded_segment(&self.value, place),
         };
-        Some(request.to_frame(self.node))
+        request.to_frame(self.node)
     }
 
     /// Frames are sent, and the next answer is awaited.

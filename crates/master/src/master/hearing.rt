@@ -1,5 +1,5 @@
 //! What a master does with a frame, or with none.
-ghost use Rattle.master.specs.Steps.{hear, take_in, hear_in, hear_open};
+ghost use Rattle.master.specs.Steps.{hear, hear_in, hear_open};
 ghost use Rattle.master.specs.Shown.{Follows};
 
 use super::Master;
@@ -11,15 +11,9 @@ use wire::{AbortCode, Frame, Identifier};
 
 impl Master {
     /// Takes what the line had for the master.
+    #[tactic(auto, unfolding(crate::specs::Steps::hear))]
     pub fn hear(&mut self, taken: Option<Frame>) -> Hearing
         ensures { Follows (hear self.old taken) self.new result }
-    {
-        self.take_in(taken)
-    }
-
-    /// Takes a frame, or finds none.
-    fn take_in(&mut self, taken: Option<Frame>) -> Hearing
-        ensures { Follows (take_in self.old taken) self.new result }
     {
         match taken {
             None => self.stay(Heard::NothingWaited),
@@ -38,6 +32,7 @@ impl Master {
     }
 
     /// Takes a frame in an open transfer; one that is not from the node is dropped.
+    #[tactic(auto, using(crate::proofs::Addressing::addressed))]
     fn hear_open(&mut self, awaiting: Awaiting, frame: Frame) -> Hearing
         ensures { Follows (hear_open self.old awaiting frame) self.new result }
     {

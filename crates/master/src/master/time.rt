@@ -1,5 +1,5 @@
 //! What a master does in a tick, and at the end of its caller's patience.
-ghost use Rattle.master.specs.Calls.{tick, tick_in, waited, rested, give_up};
+ghost use Rattle.master.specs.Calls.{tick, waited, rested, give_up};
 ghost use Rattle.master.specs.Shown.{Ticks, Parts};
 
 use super::Master;
@@ -13,15 +13,9 @@ const PATIENCE: u8 = 10;
 
 impl Master {
     /// Lets a tick pass.
+    #[tactic(auto, unfolding(crate::specs::Calls::tick))]
     pub fn tick(&mut self) -> Tick
         ensures { Ticks (tick self.old) self.new result }
-    {
-        self.pass_tick()
-    }
-
-    /// Lets a tick pass, by the phase.
-    fn pass_tick(&mut self) -> Tick
-        ensures { Ticks (tick_in self.old self.old.phase) self.new result }
     {
         match self.phase {
             Phase::Open(awaiting) => self.wait(awaiting),
