@@ -14,6 +14,7 @@ pub enum Phase {
 }
 
 /// The answer that an open transfer awaits.
+// A toggle with a number or a size is no struct: two functions take each pair, and their cases name it here.
 #[derive(Clone, Copy)]
 pub enum Awaiting {
     /// That to the start of a write that carries its value.
@@ -56,6 +57,7 @@ pub struct Failure {
     pub code: AbortCode,
     pub finder: Finder,
     /// Whether the node may have set the value all the same.
+    // Not in `Finder::Master`: a report tells it of every failure, and would have to match on the finder first.
     pub may_be_set: bool,
     /// The highest segment of the value that was sent or asked for; 0 if none was.
     pub segment: u16,

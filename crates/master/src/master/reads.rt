@@ -50,14 +50,12 @@ impl Master {
     ) -> Hearing
         ensures { Follows (read_on self.old (UploadSegment toggle size) toggle size last (self.old.value ++ data_value «data»)) self.new result }
     {
+        let awaiting = Awaiting::UploadSegment { toggle, size };
         let total = self.value.len() + data.value().len();
         if total > CAPACITY {
-            self.find(
-                Awaiting::UploadSegment { toggle, size },
-                AbortCode::OutOfMemory,
-            )
+            self.find(awaiting, AbortCode::OutOfMemory)
         } else if last {
-            self.read_whole(Awaiting::UploadSegment { toggle, size }, size, data)
+            self.read_whole(awaiting, size, data)
         } else {
             self.value.try_extend_from_slice(data.value()).unwrap();
             self.ask_segment(toggle.other(), size)
@@ -97,18 +95,12 @@ impl Master {
 fn may_come(size: Option<u32>) -> bool
     ensures { result ≡ may_come size }
 {
-    match size {
-        None => true,
-        Some(size) => size >= 1 && size as usize <= CAPACITY,
-    }
+    size.is_none_or(|size| size >= 1 && size as usize <= CAPACITY)
 }
 
 /// Whether an announced size differs from a number of bytes.
 fn differs(size: Option<u32>, total: usize) -> bool
     ensures { result ≡ differs size total }
 {
-    match size {
-        None => false,
-        Some(size) => size as usize != total,
-    }
+    size.is_some_and(|size| size as usize != total)
 }
