@@ -1,5 +1,5 @@
 -- Success is told only after the last answer, and an abort that is heard ends the transfer.
-use Rattle.std.proofs.Common.{◌≡◌, ℕ, Some, Option, sym, ap, ◌∙◌, arith}
+use Rattle.std.proofs.Common.{◌≡◌, Some, Ok, Option, sym, ap, ◌∙◌}
 use Rattle.wire.specs.declared.frame.Frame.{Frame}
 use Rattle.wire.specs.declared.multiplexor.Multiplexor.{Multiplexor}
 use Rattle.wire.specs.declared.abort_code.AbortCode.{AbortCode}
@@ -9,21 +9,20 @@ use Rattle.sdo.specs.Answers as answer
 use Rattle.master.specs.declared.heard.Heard.TheVariants as heard
 use Rattle.master.specs.declared.phase.Phase.TheVariants.{Open, Over}
 use Rattle.master.specs.declared.phase.Awaiting.{Awaiting}
-use Rattle.master.specs.declared.phase.Ending.TheVariants.{Done}
 use Rattle.master.specs.States.{State}
 use Rattle.master.specs.Steps.{Step, found, told, hear_in, hear}
 use Rattle.master.specs.Laws.{Finishes, Awaited, SuccessIsAnswered, AbortHeardEnds}
 use Rattle.master.proofs.Outcomes.{Outcome, goes_on, ended, was_told, succeeded, HeardAs, stays, answers, hear_outcome}
 use Rattle.master.proofs.Addressing.{addressed}
 
-finished_by : {s : State} {w : Awaiting} {o : Option Answer} {p : Step} → Outcome s w o p → p.next.phase ≡ Over Done → (a : Answer) × ((o ≡ Some a) × Finishes s w a)
+finished_by : {s : State} {w : Awaiting} {o : Option Answer} {p : Step} → Outcome s w o p → p.next.phase ≡ Over (Ok tt) → (a : Answer) × ((o ≡ Some a) × Finishes s w a)
 unfolding found told
-finished_by (goes_on u h v fs some paid) e = let z : ◌≡◌ {A = ℕ} 0 1 = cc in absurd (omega arith)
-finished_by (ended c) e = let z : ◌≡◌ {A = ℕ} 0 1 = cc in absurd (omega arith)
-finished_by (was_told c) e = let z : ◌≡◌ {A = ℕ} 0 1 = cc in absurd (omega arith)
+finished_by (goes_on u h v fs some paid) e = cc
+finished_by (ended c) e = cc
+finished_by (was_told c) e = cc
 finished_by (succeeded a v is fin) e = (a, (is, fin))
 
-answered_by : {s : State} {f : Option Frame} {p : Step} → HeardAs s f p → p.heard ≡ heard.Over → p.next.phase ≡ Over Done → (g : Frame) × ((f ≡ Some g) × Awaited s g)
+answered_by : {s : State} {f : Option Frame} {p : Step} → HeardAs s f p → p.heard ≡ heard.Over → p.next.phase ≡ Over (Ok tt) → (g : Frame) × ((f ≡ Some g) × Awaited s g)
 answered_by (stays h no-over no-sent) over e = absurd (no-over over)
 answered_by (answers w g own is from out) over e =
     let last = finished_by out e in

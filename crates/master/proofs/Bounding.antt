@@ -6,7 +6,7 @@ use Rattle.wire.specs.declared.multiplexor.Multiplexor.{Multiplexor}
 use Rattle.sdo.specs.Requests.{Request}
 use Rattle.sdo.specs.Answers.{Answer}
 use Rattle.master.specs.declared.phase.Phase.{Phase}
-use Rattle.master.specs.declared.phase.Phase.TheVariants.{Idle, Open, Over}
+use Rattle.master.specs.declared.phase.Phase.TheVariants.{Open}
 use Rattle.master.specs.declared.phase.Awaiting.{Awaiting}
 use Rattle.master.specs.declared.phase.Awaiting.TheVariants as awaiting
 use Rattle.master.specs.declared.method.Method.{Method}
@@ -21,14 +21,12 @@ use Rattle.master.specs.Laws.{RepeatsAreBounded}
 use Rattle.master.proofs.Outcomes.{by_phase, Writes, room, Outcome, goes_on, ended, was_told, succeeded, HeardAs, stays, answers, hear_outcome, accepted_as, refused_as, waits_on, waits_out}
 
 abbrev WritesIn : Phase → Type 0
-WritesIn Idle = Unit {0}
 WritesIn (Open w) = Writes w
-WritesIn (Over e) = Unit {0}
+WritesIn p = Unit {0}
 
 abbrev room_in : List ℕ → Phase → ℕ
-room_in v Idle = 0
 room_in v (Open w) = room v w
-room_in v (Over e) = 0
+room_in v p = 0
 
 abbrev left : State → ℕ
 left s = room_in s.value s.phase
@@ -40,14 +38,8 @@ record Pays (s next : State) (fs : List Frame) : Type 0 where
 
 -- there is always room for an abort
 room_for_abort : (v : List ℕ) (w : Awaiting) → 1 ≤ room v w
-room_for_abort v awaiting.ExpeditedDownload = omega arith
-room_for_abort v awaiting.InitiateDownload = omega arith
-room_for_abort v (awaiting.DownloadSegment t k) = omega arith
-room_for_abort v awaiting.InitiateUpload = omega arith
-room_for_abort v (awaiting.UploadSegment t size) = omega arith
-room_for_abort v awaiting.InitiateBlockDownload = omega arith
 room_for_abort v (awaiting.BlockDownload x) = omega arith
-room_for_abort v awaiting.EndBlockDownload = omega arith
+room_for_abort v w = omega arith
 
 pays_nothing : (s : State) → WritesIn s.phase → Pays s s []
 pays_nothing s h = record { writes = h; pays = omega arith }
@@ -121,14 +113,13 @@ pays_run (more fs n t c r no_start) wr =
 -- what a write can send behind its start
 write_room : (how : Method) (v : List ℕ) → length v ≤ 1024 → (room v (write_awaited how) ≤ 1292) × Writes (write_awaited how)
 write_room method.Expedited v h = (omega arith, tt)
-write_room method.Segmented v h = (omega arith, tt)
-write_room method.Block v h = (omega arith, tt)
+write_room how v h = (omega arith, tt)
 
 fitting-length : (m : Multiplexor) (how : Method) (v : List ℕ) (y : Request) → start m (Write how v) ≡ Ok y → length v ≤ 1024
 fitting-length m how v y =
     cond_both (is_length (length v)) (cond (fits_start how v) (Ok (write_start m how v)) (Err NotExpedited)) (Err ValueLength) (λ q. q ≡ Ok y → length v ≤ 1024)
     (λ e _. leb-true (length v) 1024 (and_parts (leb 1 (length v)) (leb (length v) 1024) e).1)
-    (λ _ e. let z : ◌≡◌ {A = ℕ} 0 1 = cc in absurd (omega arith))
+    (λ _ e. cc)
 
 run_from : (s t u : State) (m : Multiplexor) (how : Method) (v : List ℕ) (fs : List Frame) (n : ℕ) → u ≡ opened s m (write_awaited how) v → length v ≤ 1024 → Run u fs n t → length fs ≤ 1292
 run_from s t u m how v fs n is h run =

@@ -22,7 +22,7 @@ use Rattle.master.specs.declared.phase.Phase.TheVariants.{Idle, Open, Over}
 use Rattle.master.specs.declared.phase.Awaiting.{Awaiting}
 use Rattle.master.specs.declared.phase.Awaiting.TheVariants as awaiting
 use Rattle.master.specs.declared.phase.SubBlock.{SubBlock}
-use Rattle.master.specs.declared.phase.Ending.{Ending}
+use Rattle.master.specs.declared.phase.Failure.{Failure}
 use Rattle.master.specs.declared.refusal.BeginRefusal.{BeginRefusal}
 use Rattle.master.specs.Values.{segments, is_last, may_come, differs, is_block_size, same_toggle}
 use Rattle.master.specs.States.{State, in_phase}
@@ -34,30 +34,23 @@ use Rattle.master.specs.Laws.{Finishes, written_at_once, last_taken, read_at_onc
 use Rattle.master.proofs.SubBlocks.{sub_block-length}
 
 -- a state by its phase
-pub by_phase : (P : State → Type 0) → ((s : State) → P (in_phase Idle s)) → ((w : Awaiting) (s : State) → P (in_phase (Open w) s)) → ((e : Ending) (s : State) → P (in_phase (Over e) s)) → (s : State) → P s
+pub by_phase : (P : State → Type 0) → ((s : State) → P (in_phase Idle s)) → ((w : Awaiting) (s : State) → P (in_phase (Open w) s)) → ((e : Result (Unit {0}) Failure) (s : State) → P (in_phase (Over e) s)) → (s : State) → P s
 by_phase P i o v s = elim s.phase as (λ p. P (in_phase p s)) [ Idle ↦ i s | Open w ↦ o w s | Over e ↦ v e s ]
 
 -- what a write awaits; a sub-block has at most 127 segments
 abbrev pub Writes : Awaiting → Type 0
-Writes awaiting.ExpeditedDownload = Unit {0}
-Writes awaiting.InitiateDownload = Unit {0}
-Writes (awaiting.DownloadSegment t k) = Unit {0}
 Writes awaiting.InitiateUpload = ⊥
 Writes (awaiting.UploadSegment t size) = ⊥
-Writes awaiting.InitiateBlockDownload = Unit {0}
 Writes (awaiting.BlockDownload x) = x.count ≤ 127
-Writes awaiting.EndBlockDownload = Unit {0}
+Writes w = Unit {0}
 
 -- how many frames a write can still send: each segment once, up to 127 again for each sub-block that may fall short, an end and an abort
 abbrev pub room : List ℕ → Awaiting → ℕ
-room v awaiting.ExpeditedDownload = 1
 room v awaiting.InitiateDownload = segments v + 2
 room v (awaiting.DownloadSegment t k) = segments v - k + 1
-room v awaiting.InitiateUpload = 1
-room v (awaiting.UploadSegment t size) = 1
 room v awaiting.InitiateBlockDownload = segments v + 9 * 127 + 2
 room v (awaiting.BlockDownload x) = segments v - (x.acknowledged + x.count) + (9 - x.short) * 127 + 2
-room v awaiting.EndBlockDownload = 1
+room v w = 1
 
 pub record Paid (s : State) (w u : Awaiting) (v : List ℕ) (fs : List Frame) : Type 0 where
   pub same-value : v ≡ s.value
@@ -124,12 +117,7 @@ module _ (s : State) where
   initiate_download : (w : Awaiting) (m : Multiplexor) → Outcome s w (Some (answer.InitiateDownload m)) (hear_initiate_download s w m)
   initiate_download awaiting.ExpeditedDownload m = started_outcome awaiting.ExpeditedDownload m _ (done s s.value) (λ e. succeeded (answer.InitiateDownload m) s.value refl (written_at_once m e))
   initiate_download awaiting.InitiateDownload m = started_outcome awaiting.InitiateDownload m _ (send_segment s Zero 1) (λ _. goes_on _ _ _ _ (omega arith) (λ _. record { same-value = refl; writes = tt; pays = omega arith }))
-  initiate_download (awaiting.DownloadSegment t k) m = ended UnknownCommand
-  initiate_download awaiting.InitiateUpload m = ended UnknownCommand
-  initiate_download (awaiting.UploadSegment t size) m = ended UnknownCommand
-  initiate_download awaiting.InitiateBlockDownload m = ended UnknownCommand
-  initiate_download (awaiting.BlockDownload x) m = ended UnknownCommand
-  initiate_download awaiting.EndBlockDownload m = ended UnknownCommand
+  initiate_download w m = ended UnknownCommand
 
   segment_outcome : (t u : Toggle) (k : ℕ) → t ≡ u → Outcome s (awaiting.DownloadSegment t k) (Some (answer.DownloadSegment u)) (segment_taken s t k)
   segment_outcome t u k same_bit =
@@ -140,14 +128,8 @@ module _ (s : State) where
       goes_on _ _ _ _ (omega arith) (λ _. record { same-value = refl; writes = tt; pays = omega arith }))
 
   download_segment : (w : Awaiting) (u : Toggle) → Outcome s w (Some (answer.DownloadSegment u)) (hear_download_segment s w u)
-  download_segment awaiting.ExpeditedDownload u = ended UnknownCommand
-  download_segment awaiting.InitiateDownload u = ended UnknownCommand
   download_segment (awaiting.DownloadSegment t k) u = toggled_outcome (awaiting.DownloadSegment t k) t u _ (segment_taken s t k) (λ e. segment_outcome t u k e)
-  download_segment awaiting.InitiateUpload u = ended UnknownCommand
-  download_segment (awaiting.UploadSegment t size) u = ended UnknownCommand
-  download_segment awaiting.InitiateBlockDownload u = ended UnknownCommand
-  download_segment (awaiting.BlockDownload x) u = ended UnknownCommand
-  download_segment awaiting.EndBlockDownload u = ended UnknownCommand
+  download_segment w u = ended UnknownCommand
 
   upload_outcome : (m : Multiplexor) (how : Transfer) → same m s.multiplexor ≡ true → Outcome s awaiting.InitiateUpload (Some (answer.InitiateUpload m how)) (upload_started s awaiting.InitiateUpload how)
   upload_outcome m (Expedited v) e = succeeded (answer.InitiateUpload m (Expedited v)) v refl (read_at_once m v e)
@@ -157,14 +139,8 @@ module _ (s : State) where
       (λ _. ended OutOfMemory)
 
   initiate_upload : (w : Awaiting) (m : Multiplexor) (how : Transfer) → Outcome s w (Some (answer.InitiateUpload m how)) (hear_initiate_upload s w m how)
-  initiate_upload awaiting.ExpeditedDownload m how = ended UnknownCommand
-  initiate_upload awaiting.InitiateDownload m how = ended UnknownCommand
-  initiate_upload (awaiting.DownloadSegment t k) m how = ended UnknownCommand
   initiate_upload awaiting.InitiateUpload m how = started_outcome awaiting.InitiateUpload m _ (upload_started s awaiting.InitiateUpload how) (λ e. upload_outcome m how e)
-  initiate_upload (awaiting.UploadSegment t size) m how = ended UnknownCommand
-  initiate_upload awaiting.InitiateBlockDownload m how = ended UnknownCommand
-  initiate_upload (awaiting.BlockDownload x) m how = ended UnknownCommand
-  initiate_upload awaiting.EndBlockDownload m how = ended UnknownCommand
+  initiate_upload w m how = ended UnknownCommand
 
   read_outcome : (t u : Toggle) (size : Option ℕ) (x v : List ℕ) (last : Bool) → t ≡ u → Outcome s (awaiting.UploadSegment t size) (Some (answer.UploadSegment u x last)) (read_on s (awaiting.UploadSegment t size) t size last v)
   read_outcome t u size x v true same_bit =
@@ -184,44 +160,20 @@ module _ (s : State) where
       (λ _. goes_on _ _ _ _ (omega arith) (λ no_write. absurd no_write))
 
   upload_segment : (w : Awaiting) (u : Toggle) (x : List ℕ) (last : Bool) → Outcome s w (Some (answer.UploadSegment u x last)) (hear_upload_segment s w u x last)
-  upload_segment awaiting.ExpeditedDownload u x last = ended UnknownCommand
-  upload_segment awaiting.InitiateDownload u x last = ended UnknownCommand
-  upload_segment (awaiting.DownloadSegment t k) u x last = ended UnknownCommand
-  upload_segment awaiting.InitiateUpload u x last = ended UnknownCommand
   upload_segment (awaiting.UploadSegment t size) u x last = toggled_outcome (awaiting.UploadSegment t size) t u _ (read_on s (awaiting.UploadSegment t size) t size last (s.value ++ x)) (λ e. read_outcome t u size x (s.value ++ x) last e)
-  upload_segment awaiting.InitiateBlockDownload u x last = ended UnknownCommand
-  upload_segment (awaiting.BlockDownload y) u x last = ended UnknownCommand
-  upload_segment awaiting.EndBlockDownload u x last = ended UnknownCommand
+  upload_segment w u x last = ended UnknownCommand
 
   initiate_block : (w : Awaiting) (m : Multiplexor) (c : CrcOffer) (n : ℕ) → Outcome s w (Some (answer.InitiateBlockDownload m c n)) (hear_initiate_block s w m c n)
-  initiate_block awaiting.ExpeditedDownload m c n = ended UnknownCommand
-  initiate_block awaiting.InitiateDownload m c n = ended UnknownCommand
-  initiate_block (awaiting.DownloadSegment t k) m c n = ended UnknownCommand
-  initiate_block awaiting.InitiateUpload m c n = ended UnknownCommand
-  initiate_block (awaiting.UploadSegment t size) m c n = ended UnknownCommand
   initiate_block awaiting.InitiateBlockDownload m c n = started_outcome awaiting.InitiateBlockDownload m _ (block_started s awaiting.InitiateBlockDownload c n) (λ _. sized awaiting.InitiateBlockDownload _ n (go_on s c n 0 0) (λ low high. go_on_outcome awaiting.InitiateBlockDownload _ c n 0 0 low high (λ _. omega arith)))
-  initiate_block (awaiting.BlockDownload x) m c n = ended UnknownCommand
-  initiate_block awaiting.EndBlockDownload m c n = ended UnknownCommand
+  initiate_block w m c n = ended UnknownCommand
 
   acknowledgement : (w : Awaiting) (a n : ℕ) → Outcome s w (Some (answer.AcknowledgeBlock a n)) (hear_acknowledgement s w a n)
-  acknowledgement awaiting.ExpeditedDownload a n = ended UnknownCommand
-  acknowledgement awaiting.InitiateDownload a n = ended UnknownCommand
-  acknowledgement (awaiting.DownloadSegment t k) a n = ended UnknownCommand
-  acknowledgement awaiting.InitiateUpload a n = ended UnknownCommand
-  acknowledgement (awaiting.UploadSegment t size) a n = ended UnknownCommand
-  acknowledgement awaiting.InitiateBlockDownload a n = ended UnknownCommand
   acknowledgement (awaiting.BlockDownload x) a n = sized (awaiting.BlockDownload x) _ n (kept s x a n) (λ low high. kept_outcome _ x a n low high)
-  acknowledgement awaiting.EndBlockDownload a n = ended UnknownCommand
+  acknowledgement w a n = ended UnknownCommand
 
   end_answer : (w : Awaiting) → Outcome s w (Some answer.EndBlockDownload) (hear_end s w)
-  end_answer awaiting.ExpeditedDownload = ended UnknownCommand
-  end_answer awaiting.InitiateDownload = ended UnknownCommand
-  end_answer (awaiting.DownloadSegment t k) = ended UnknownCommand
-  end_answer awaiting.InitiateUpload = ended UnknownCommand
-  end_answer (awaiting.UploadSegment t size) = ended UnknownCommand
-  end_answer awaiting.InitiateBlockDownload = ended UnknownCommand
-  end_answer (awaiting.BlockDownload x) = ended UnknownCommand
   end_answer awaiting.EndBlockDownload = succeeded answer.EndBlockDownload s.value refl block_closed
+  end_answer w = ended UnknownCommand
 
   answered_outcome : (w : Awaiting) (a : Answer) → Outcome s w (Some a) (answered s w a)
   answered_outcome w (answer.InitiateDownload m) = initiate_download w m
@@ -243,10 +195,10 @@ pub data HeardAs (s : State) (f : Option Frame) : Step → Type 0 where
   answers : {p : Step} (w : Awaiting) (g : Frame) → s.phase ≡ Open w → f ≡ Some g → g.identifier.number ≡ (answer_identifier s.node).number → Outcome s w (answer_in g.bytes) p → HeardAs s f p
 
 nothing : (s : State) (f : Option Frame) → HeardAs s f (unmoved s heard.NothingWaited)
-nothing s f = stays heard.NothingWaited (λ e. let z : ◌≡◌ {A = ℕ} 0 1 = cc in omega arith) (λ e. let z : ◌≡◌ {A = ℕ} 0 1 = cc in omega arith)
+nothing s f = stays heard.NothingWaited (λ e. cc) (λ e. cc)
 
 dropped : (s : State) (f : Option Frame) → HeardAs s f (unmoved s heard.Dropped)
-dropped s f = stays heard.Dropped (λ e. let z : ◌≡◌ {A = ℕ} 0 1 = cc in omega arith) (λ e. let z : ◌≡◌ {A = ℕ} 0 1 = cc in omega arith)
+dropped s f = stays heard.Dropped (λ e. cc) (λ e. cc)
 
 heard_open : (w : Awaiting) (s : State) (g : Frame) → s.phase ≡ Open w → HeardAs s (Some g) (hear_open s w g)
 heard_open w s g own =
@@ -266,14 +218,14 @@ hear_outcome s (Some g) =
 
 -- a begin that was accepted, and one that was refused
 pub accepted_as : (r : Result (Unit {0}) BeginRefusal) (q : Result Request BeginRefusal) (s : State) (m : Multiplexor) (o : Order) (x : Started) → (begin_if r q s m o).answer ≡ Ok x → (y : Request) × (((begin_if r q s m o).next ≡ opened s m (first_awaited o) (ordered o)) × ((x ≡ starting s y) × (q ≡ Ok y)))
-accepted_as (Err e) q s m o x said = let z : ◌≡◌ {A = ℕ} 0 1 = cc in absurd (omega arith)
-accepted_as (Ok u) (Err e) s m o x said = let z : ◌≡◌ {A = ℕ} 0 1 = cc in absurd (omega arith)
+accepted_as (Err e) q s m o x said = cc
+accepted_as (Ok u) (Err e) s m o x said = cc
 accepted_as (Ok u) (Ok y) s m o x said = (y, (refl, (cc, refl)))
 
 pub refused_as : (r : Result (Unit {0}) BeginRefusal) (q : Result Request BeginRefusal) (s : State) (m : Multiplexor) (o : Order) → accepted (begin_if r q s m o).answer ≡ false → ((begin_if r q s m o).next ≡ s) × (started_frames (begin_if r q s m o).answer ≡ [])
 refused_as (Err e) q s m o no_start = (refl, refl)
 refused_as (Ok u) (Err e) s m o no_start = (refl, refl)
-refused_as (Ok u) (Ok y) s m o no_start = let z : ◌≡◌ {A = ℕ} 0 1 = cc in absurd (omega arith)
+refused_as (Ok u) (Ok y) s m o no_start = cc
 
 -- the two ways of a tick in an open transfer
 abbrev pub waits_on : Awaiting → State → Ticking

@@ -1,15 +1,12 @@
 -- A master rests for 30 ticks after its transfer has failed.
-use Rattle.std.proofs.Common.{◌≡◌, ℕ, ◌+◌, ◌-◌, ◌<◌, true, false, cond, eqb, ltb, leb, List, [], length, Ok, Err, Option, Result, sym, refl, ap, ◌∙◌, subst, inl, inr, arith}
+use Rattle.std.proofs.Common.{◌≡◌, ℕ, ◌+◌, ◌-◌, ◌<◌, false, cond, eqb, ltb, leb, List, [], length, Ok, Err, Option, Result, sym, refl, ap, ◌∙◌, subst, inl, inr, arith}
 use Rattle.std.proofs.lemmas.Bool.{cond_both, ltb-true, ltb-false, eq-eqb, ne_eqb, cases_eq}
 use Rattle.wire.specs.declared.frame.Frame.{Frame}
 use Rattle.wire.specs.declared.multiplexor.Multiplexor.{Multiplexor}
 use Rattle.sdo.specs.Requests.{Request}
 use Rattle.sdo.specs.Answers.{Answer}
-use Rattle.master.specs.declared.phase.Phase.{Phase}
 use Rattle.master.specs.declared.phase.Phase.TheVariants.{Idle, Open, Over}
 use Rattle.master.specs.declared.phase.Awaiting.{Awaiting}
-use Rattle.master.specs.declared.phase.Ending.{Ending}
-use Rattle.master.specs.declared.phase.Ending.TheVariants.{Failed}
 use Rattle.master.specs.declared.phase.Failure.{Failure}
 use Rattle.master.specs.declared.refusal.BeginRefusal.{BeginRefusal}
 use Rattle.master.specs.declared.refusal.BeginRefusal.TheVariants.{NotCleared, Resting, AllBegun, ValueLength, NotExpedited}
@@ -22,50 +19,44 @@ use Rattle.master.specs.Laws.{is_open, JustFailed, by_call, Rests, RestsForThirt
 use Rattle.master.proofs.Outcomes.{by_phase, Outcome, goes_on, ended, was_told, succeeded, HeardAs, stays, answers, hear_outcome, refused_as, waits_on, waits_out}
 
 -- where an open transfer fails, the rest begins
-rest-answered : {s : State} {w : Awaiting} {o : Option Answer} {p : Step} (f : Failure) → Outcome s w o p → p.next.phase ≡ Over (Failed f) → p.next.rest ≡ 30
+rest-answered : {s : State} {w : Awaiting} {o : Option Answer} {p : Step} (f : Failure) → Outcome s w o p → p.next.phase ≡ Over (Err f) → p.next.rest ≡ 30
 unfolding found told
-rest-answered f (goes_on u h v fs some paid) e = let z : ◌≡◌ {A = ℕ} 0 1 = cc in absurd (omega arith)
+rest-answered f (goes_on u h v fs some paid) e = cc
 rest-answered f (ended c) e = refl
 rest-answered f (was_told c) e = refl
-rest-answered f (succeeded a v is fin) e = let z : ◌≡◌ {A = ℕ} 0 1 = cc in absurd (omega arith)
+rest-answered f (succeeded a v is fin) e = cc
 
-rest-heard : {s : State} {g : Option Frame} {p : Step} (w : Awaiting) (f : Failure) → HeardAs s g p → s.phase ≡ Open w → p.next.phase ≡ Over (Failed f) → p.next.rest ≡ 30
-rest-heard w f (stays h no-over no-sent) own e = let z : ◌≡◌ {A = ℕ} 0 1 = cc in absurd (omega arith)
+rest-heard : {s : State} {g : Option Frame} {p : Step} (w : Awaiting) (f : Failure) → HeardAs s g p → s.phase ≡ Open w → p.next.phase ≡ Over (Err f) → p.next.rest ≡ 30
+rest-heard w f (stays h no-over no-sent) own e = cc
 rest-heard w f (answers u g op is from out) own e = rest-answered f out e
 
-rest-begun : (r : Result (Unit {0}) BeginRefusal) (q : Result Request BeginRefusal) (s : State) (m : Multiplexor) (o : Order) (w : Awaiting) (f : Failure) → s.phase ≡ Open w → (begin_if r q s m o).next.phase ≡ Over (Failed f) → (begin_if r q s m o).next.rest ≡ 30
-rest-begun (Err e) q s m o w f own is = let z : ◌≡◌ {A = ℕ} 0 1 = cc in absurd (omega arith)
-rest-begun (Ok u) (Err e) s m o w f own is = let z : ◌≡◌ {A = ℕ} 0 1 = cc in absurd (omega arith)
-rest-begun (Ok u) (Ok y) s m o w f own is = let z : ◌≡◌ {A = ℕ} 0 1 = cc in absurd (omega arith)
+rest-begun : (r : Result (Unit {0}) BeginRefusal) (q : Result Request BeginRefusal) (s : State) (m : Multiplexor) (o : Order) (w : Awaiting) (f : Failure) → s.phase ≡ Open w → (begin_if r q s m o).next.phase ≡ Over (Err f) → (begin_if r q s m o).next.rest ≡ 30
+rest-begun (Err e) q s m o w f own is = cc
+rest-begun (Ok u) (Err e) s m o w f own is = cc
+rest-begun (Ok u) (Ok y) s m o w f own is = cc
 
-apart : {X : Type 0} (p : Phase) (w : Awaiting) (e : Ending) → p ≡ Open w → p ≡ Over e → X
-apart p w e a b = let z : ◌≡◌ {A = ℕ} 0 1 = cc in absurd (omega arith)
-
-idle_apart : {X : Type 0} (w : Awaiting) → Idle ≡ Open w → X
-idle_apart w a = let z : ◌≡◌ {A = ℕ} 0 1 = cc in absurd (omega arith)
-
-rest_ticked : (s : State) (w : Awaiting) (f : Failure) → s.phase ≡ Open w → (tick s).next.phase ≡ Over (Failed f) → (tick s).next.rest ≡ 30
+rest_ticked : (s : State) (w : Awaiting) (f : Failure) → s.phase ≡ Open w → (tick s).next.phase ≡ Over (Err f) → (tick s).next.rest ≡ 30
 unfolding tick
 rest_ticked s w f =
-    by_phase (λ u. u.phase ≡ Open w → (tick u).next.phase ≡ Over (Failed f) → (tick u).next.rest ≡ 30)
-    (λ u own is. idle_apart w own)
-    (λ v u own. cond_both (ltb u.ticks 9) (waits_on v u) (waits_out v u) (λ k. k.next.phase ≡ Over (Failed f) → k.next.rest ≡ 30)
-    (λ e is. apart (Open v) v (Failed f) refl is)
+    by_phase (λ u. u.phase ≡ Open w → (tick u).next.phase ≡ Over (Err f) → (tick u).next.rest ≡ 30)
+    (λ u own is. cc)
+    (λ v u own. cond_both (ltb u.ticks 9) (waits_on v u) (waits_out v u) (λ k. k.next.phase ≡ Over (Err f) → k.next.rest ≡ 30)
+    (λ e is. cc)
     (λ e is. refl))
-    (λ e u own is. apart (Over e) w e own refl)
+    (λ e u own is. cc)
     s
 
-rest-given_up : (s : State) (w : Awaiting) (f : Failure) → s.phase ≡ Open w → (give_up s).next.phase ≡ Over (Failed f) → (give_up s).next.rest ≡ 30
+rest-given_up : (s : State) (w : Awaiting) (f : Failure) → s.phase ≡ Open w → (give_up s).next.phase ≡ Over (Err f) → (give_up s).next.rest ≡ 30
 rest-given_up s w f =
-    by_phase (λ u. u.phase ≡ Open w → (give_up u).next.phase ≡ Over (Failed f) → (give_up u).next.rest ≡ 30)
-    (λ u own is. idle_apart w own) (λ v u own is. refl) (λ e u own is. apart (Over e) w e own refl) s
+    by_phase (λ u. u.phase ≡ Open w → (give_up u).next.phase ≡ Over (Err f) → (give_up u).next.rest ≡ 30)
+    (λ u own is. cc) (λ v u own is. refl) (λ e u own is. cc) s
 
-rest_cleared : (s : State) (w : Awaiting) (f : Failure) → s.phase ≡ Open w → (clear s).phase ≡ Over (Failed f) → (clear s).rest ≡ 30
+rest_cleared : (s : State) (w : Awaiting) (f : Failure) → s.phase ≡ Open w → (clear s).phase ≡ Over (Err f) → (clear s).rest ≡ 30
 rest_cleared s w f =
-    by_phase (λ u. u.phase ≡ Open w → (clear u).phase ≡ Over (Failed f) → (clear u).rest ≡ 30)
-    (λ u own is. idle_apart w own) (λ v u own is. apart (Open v) v (Failed f) refl is) (λ e u own is. apart (Over e) w e own refl) s
+    by_phase (λ u. u.phase ≡ Open w → (clear u).phase ≡ Over (Err f) → (clear u).rest ≡ 30)
+    (λ u own is. cc) (λ v u own is. cc) (λ e u own is. cc) s
 
-rest_from : (s : State) (w : Awaiting) (c : Call) (f : Failure) → s.phase ≡ Open w → (after s c).phase ≡ Over (Failed f) → (after s c).rest ≡ 30
+rest_from : (s : State) (w : Awaiting) (c : Call) (f : Failure) → s.phase ≡ Open w → (after s c).phase ≡ Over (Err f) → (after s c).rest ≡ 30
 unfolding begin
 rest_from s w (Begin m o) f own is = rest-begun (free s) (start m o) s m o w f own is
 rest_from s w (Hear g) f own is = rest-heard w f (hear_outcome s g) own is
@@ -78,12 +69,9 @@ record Calms (next : State) (r : ℕ) : Type 0 where
   not_open : is_open next.phase ≡ false
   left : next.rest ≡ r
 
-opened_not : {X : Type 0} → true ≡ false → X
-opened_not e = let z : ◌≡◌ {A = ℕ} 0 1 = cc in absurd (omega arith)
-
 calm_heard : {s : State} {f : Option Frame} {p : Step} → HeardAs s f p → is_open s.phase ≡ false → Calms p.next (s.rest - 0)
 calm_heard (stays h no-over no-sent) e = record { not_open = e; left = omega arith }
-calm_heard {s} (answers w g own is from out) e = opened_not (sym (ap is_open own) ∙ e)
+calm_heard {s} (answers w g own is from out) e = cc
 
 calm_begin : (s : State) (m : Multiplexor) (o : Order) → accepted (begin s m o).answer ≡ false → is_open s.phase ≡ false → Calms (begin s m o).next (s.rest - 0)
 unfolding begin
@@ -95,17 +83,17 @@ calm_tick : (s : State) → is_open s.phase ≡ false → Calms (tick s).next (s
 unfolding tick
 calm_tick s =
     by_phase (λ u. is_open u.phase ≡ false → Calms (tick u).next (u.rest - 1))
-    (λ u e. record { not_open = refl; left = refl }) (λ w u e. opened_not e) (λ k u e. record { not_open = refl; left = refl }) s
+    (λ u e. record { not_open = refl; left = refl }) (λ w u e. cc) (λ k u e. record { not_open = refl; left = refl }) s
 
 calm_give_up : (s : State) → is_open s.phase ≡ false → Calms (give_up s).next (s.rest - 0)
 calm_give_up s =
     by_phase (λ u. is_open u.phase ≡ false → Calms (give_up u).next (u.rest - 0))
-    (λ u e. record { not_open = refl; left = omega arith }) (λ w u e. opened_not e) (λ k u e. record { not_open = refl; left = omega arith }) s
+    (λ u e. record { not_open = refl; left = omega arith }) (λ w u e. cc) (λ k u e. record { not_open = refl; left = omega arith }) s
 
 calm_clear : (s : State) → is_open s.phase ≡ false → Calms (clear s) (s.rest - 0)
 calm_clear s =
     by_phase (λ u. is_open u.phase ≡ false → Calms (clear u) (u.rest - 0))
-    (λ u e. record { not_open = refl; left = omega arith }) (λ w u e. opened_not e) (λ k u e. record { not_open = refl; left = omega arith }) s
+    (λ u e. record { not_open = refl; left = omega arith }) (λ w u e. cc) (λ k u e. record { not_open = refl; left = omega arith }) s
 
 calm : (s : State) (c : Call) → begins s c ≡ false → is_open s.phase ≡ false → Calms (after s c) (s.rest - ticks_in c)
 calm s (Begin m o) no_start e = calm_begin s m o no_start e
@@ -137,20 +125,20 @@ quiets_resting : (s : State) → is_open s.phase ≡ false → (tick s).sending 
 unfolding tick
 quiets_resting s =
     by_phase (λ u. is_open u.phase ≡ false → (tick u).sending ≡ record { quiet = eqb u.rest 1; frames = [] })
-    (λ u e. refl) (λ w u e. opened_not e) (λ k u e. refl) s
+    (λ u e. refl) (λ w u e. cc) (λ k u e. refl) s
 
 no_rest_in : (q : Result Request BeginRefusal) → (q ≡ Err Resting → ⊥) → (s : State) (m : Multiplexor) (o : Order) → (begin_if (Ok tt) q s m o).answer ≡ Err Resting → ⊥
 no_rest_in (Err e) h s m o is = h (cc)
-no_rest_in (Ok y) h s m o is = let z : ◌≡◌ {A = ℕ} 0 1 = cc in omega arith
+no_rest_in (Ok y) h s m o is = cc
 
 started_not_resting : (m : Multiplexor) (o : Order) → start m o ≡ Err Resting → ⊥
-started_not_resting m Read e = let z : ◌≡◌ {A = ℕ} 0 1 = cc in omega arith
+started_not_resting m Read e = cc
 started_not_resting m (Write how v) e =
     cond_both (is_length (length v)) (cond (fits_start how v) (Ok (write_start m how v)) (Err NotExpedited)) (Err ValueLength) (λ q. q ≡ Err Resting → ⊥)
     (λ _. cond_both (fits_start how v) (Ok (write_start m how v)) (Err NotExpedited) (λ q. q ≡ Err Resting → ⊥)
-    (λ _ k. let z : ◌≡◌ {A = ℕ} 0 1 = cc in omega arith)
-    (λ _ k. let z : ◌≡◌ {A = ℕ} 0 1 = cc in omega arith))
-    (λ _ k. let z : ◌≡◌ {A = ℕ} 0 1 = cc in omega arith)
+    (λ _ k. cc)
+    (λ _ k. cc))
+    (λ _ k. cc)
     e
 
 rested_enough : (m : Multiplexor) (o : Order) (s : State) → s.rest ≡ 0 → (begin s m o).answer ≡ Err Resting → ⊥
@@ -160,10 +148,10 @@ rested_enough m o s =
     (λ u z. cond_both (ltb 0 u.rest) (Err Resting) (cond (leb 65535 u.begun) (Err AllBegun) (Ok tt)) (λ r. (begin_if r (start m o) (in_phase Idle u) m o).answer ≡ Err Resting → ⊥)
     (λ e _. omega (arith, ltb-true 0 u.rest e))
     (λ _. cond_both (leb 65535 u.begun) (Err AllBegun) (Ok tt) (λ r. (begin_if r (start m o) (in_phase Idle u) m o).answer ≡ Err Resting → ⊥)
-    (λ _ e. let z : ◌≡◌ {A = ℕ} 0 1 = cc in omega arith)
+    (λ _ e. cc)
     (λ _. no_rest_in (start m o) (started_not_resting m o) (in_phase Idle u) m o)))
-    (λ w u z e. let z : ◌≡◌ {A = ℕ} 0 1 = cc in omega arith)
-    (λ k u z e. let z : ◌≡◌ {A = ℕ} 0 1 = cc in omega arith)
+    (λ w u z e. cc)
+    (λ k u z e. cc)
     s
 
 the_thirtieth : (n : ℕ) → n < 30 → eqb (30 - n) 1 ≡ eqb (n + 1) 30

@@ -17,9 +17,9 @@ use Rattle.master.proofs.Outcomes.{by_phase, Outcome, goes_on, ended, was_told, 
 fresh-after : {s : State} {w : Awaiting} {o : Option Answer} {p : Step} → Outcome s w o p → p.heard ≡ heard.Sent → p.next.ticks ≡ 0
 unfolding found told
 fresh-after (goes_on u h v fs some paid) e = refl
-fresh-after (ended c) e = let z : ◌≡◌ {A = ℕ} 0 1 = cc in absurd (omega arith)
-fresh-after (was_told c) e = let z : ◌≡◌ {A = ℕ} 0 1 = cc in absurd (omega arith)
-fresh-after (succeeded a v is fin) e = let z : ◌≡◌ {A = ℕ} 0 1 = cc in absurd (omega arith)
+fresh-after (ended c) e = cc
+fresh-after (was_told c) e = cc
+fresh-after (succeeded a v is fin) e = cc
 
 fresh-heard : {s : State} {f : Option Frame} {p : Step} → HeardAs s f p → p.heard ≡ heard.Sent → p.next.ticks ≡ 0
 fresh-heard (stays h no-over no-sent) e = absurd (no-sent e)
@@ -46,9 +46,9 @@ counts_same t e = record { was_open = e; counted = omega arith; few = λ h. h }
 counts_answer : {s : State} {w : Awaiting} {o : Option Answer} {p : Step} → Outcome s w o p → p.sending.frames ≡ [] → is_open p.next.phase ≡ true → ⊥
 unfolding found told
 counts_answer (goes_on u h v fs some paid) e op = omega (arith, ap length e)
-counts_answer (ended c) e op = let z : ◌≡◌ {A = ℕ} 0 1 = cc in omega arith
-counts_answer (was_told c) e op = let z : ◌≡◌ {A = ℕ} 0 1 = cc in omega arith
-counts_answer (succeeded a v is fin) e op = let z : ◌≡◌ {A = ℕ} 0 1 = cc in omega arith
+counts_answer (ended c) e op = cc
+counts_answer (was_told c) e op = cc
+counts_answer (succeeded a v is fin) e op = cc
 
 counts_heard : {s : State} {f : Option Frame} {p : Step} → HeardAs s f p → p.sending.frames ≡ [] → is_open p.next.phase ≡ true → Counts s p.next 0
 counts_heard {s} (stays h no-over no-sent) e op = counts_same s op
@@ -60,29 +60,26 @@ counts_begin t m o no_start op =
     let e = (refused_as (free t) (start m o) t m o no_start).0 in
     subst (λ u. is_open u.phase ≡ true → Counts t u 0) (sym e) (counts_same t) op
 
-closed : {X : Type 0} → false ≡ true → X
-closed e = let z : ◌≡◌ {A = ℕ} 0 1 = cc in absurd (omega arith)
-
 counts_tick : (t : State) → is_open (tick t).next.phase ≡ true → Counts t (tick t).next 1
 unfolding tick
 counts_tick t =
     by_phase (λ u. is_open (tick u).next.phase ≡ true → Counts u (tick u).next 1)
-    (λ u op. closed op)
+    (λ u op. cc)
     (λ w u. cond_both (ltb u.ticks 9) (waits_on w u) (waits_out w u) (λ k. is_open k.next.phase ≡ true → Counts (in_phase (Open w) u) k.next 1)
     (λ e op. record { was_open = refl; counted = refl; few = λ h. omega (arith, ltb-true u.ticks 9 e) })
-    (λ e op. closed op))
-    (λ e u op. closed op)
+    (λ e op. cc))
+    (λ e u op. cc)
     t
 
 counts_give_up : (t : State) → is_open (give_up t).next.phase ≡ true → Counts t (give_up t).next 0
 counts_give_up t =
     by_phase (λ u. is_open (give_up u).next.phase ≡ true → Counts u (give_up u).next 0)
-    (λ u op. closed op) (λ w u op. closed op) (λ e u op. closed op) t
+    (λ u op. cc) (λ w u op. cc) (λ e u op. cc) t
 
 counts_clear : (t : State) → is_open (clear t).phase ≡ true → Counts t (clear t) 0
 counts_clear t =
     by_phase (λ u. is_open (clear u).phase ≡ true → Counts u (clear u) 0)
-    (λ u op. closed op) (λ w u op. counts_same (in_phase (Open w) u) op) (λ e u op. closed op) t
+    (λ u op. cc) (λ w u op. counts_same (in_phase (Open w) u) op) (λ e u op. cc) t
 
 counts : (t : State) (c : Call) → begins t c ≡ false → sent_in t c ≡ [] → is_open (after t c).phase ≡ true → Counts t (after t c) (ticks_in c)
 counts t (Begin m o) no_start e op = counts_begin t m o no_start op
@@ -93,7 +90,7 @@ counts t Clear no_start e op = counts_clear t op
 
 no_frames : (fs gs : List Frame) → fs ++ gs ≡ [] → (fs ≡ []) × (gs ≡ [])
 no_frames [] gs e = (refl, e)
-no_frames (f ∷ fs) gs e = let z : ◌≡◌ {A = ℕ} 0 1 = cc in absurd (omega arith)
+no_frames (f ∷ fs) gs e = cc
 
 waited_so_long : {s : State} {fs : List Frame} {n : ℕ} {t : State} → Run s fs n t → s.ticks ≡ 0 → fs ≡ [] → is_open t.phase ≡ true → (t.ticks ≡ n) × (t.ticks ≤ 9)
 waited_so_long none z e op = (z, omega arith)
@@ -107,11 +104,11 @@ ends-at_ten : (t : State) → is_open t.phase ≡ true → t.ticks ≤ 9 → (ti
 unfolding tick
 ends-at_ten t =
     by_phase (λ u. is_open u.phase ≡ true → u.ticks ≤ 9 → (tick u).ended ≡ eqb (u.ticks + 1) 10)
-    (λ u op h. closed op)
+    (λ u op h. cc)
     (λ w u op h. cond_both (ltb u.ticks 9) (waits_on w u) (waits_out w u) (λ k. k.ended ≡ eqb (u.ticks + 1) 10)
     (λ e. sym (ne_eqb (u.ticks + 1) 10 (λ ten. omega (arith, ltb-true u.ticks 9 e))))
     (λ e. sym (eq-eqb (u.ticks + 1) 10 (omega (arith, ltb-false u.ticks 9 e)))))
-    (λ e u op h. closed op)
+    (λ e u op h. cc)
     t
 
 pub tenth_tick_ends : TenthTickEnds
@@ -123,4 +120,4 @@ pub only_open_transfers_end : OnlyOpenTransfersEnd
 unfolding tick
 only_open_transfers_end t =
     by_phase (λ u. is_open u.phase ≡ false → (tick u).ended ≡ false)
-    (λ u e. refl) (λ w u e. closed (sym e)) (λ k u e. refl) t
+    (λ u e. refl) (λ w u e. cc) (λ k u e. refl) t

@@ -42,8 +42,7 @@ first_awaited (Write how v) = write_awaited how
 -- what speaks against any transfer: the first of these
 abbrev pub not_cleared : Phase → Bool
 not_cleared phase.Idle = false
-not_cleared (phase.Open w) = true
-not_cleared (phase.Over e) = true
+not_cleared p = true
 
 abbrev pub free : State → Result (Unit {0}) BeginRefusal
 free s =
@@ -55,8 +54,7 @@ free s =
 -- what then speaks against a value: its length, and that it does not fit into its start
 abbrev pub fits_start : Method → List ℕ → Bool
 fits_start method.Expedited v = nat_le (length v) 4
-fits_start method.Segmented v = true
-fits_start method.Block v = true
+fits_start how v = true
 
 abbrev pub fitting : Method → List ℕ → Request → Result Request BeginRefusal
 fitting how v q = cond (is_length (length v)) (cond (fits_start how v) (Ok q) (Err NotExpedited)) (Err ValueLength)
@@ -118,9 +116,8 @@ abbrev pub rested : State → Ticking
 rested s = record { next = counted s.ticks (s.rest - 1) s; ended = false; sending = record { quiet = (s.rest == 1); frames = [] } }
 
 abbrev pub tick_in : State → Phase → Ticking
-tick_in s phase.Idle = rested s
 tick_in s (phase.Open w) = waited s w
-tick_in s (phase.Over e) = rested s
+tick_in s p = rested s
 
 unfoldable pub tick : State → Ticking
 tick s = tick_in s s.phase
@@ -131,9 +128,8 @@ pub record Parting : Type 0 where
   pub sending : Sending
 
 abbrev pub give_up_in : State → Phase → Parting
-give_up_in s phase.Idle = record { next = s; sending = silence }
 give_up_in s (phase.Open w) = record { next = abandoned w GeneralError s; sending = parting GeneralError s }
-give_up_in s (phase.Over e) = record { next = s; sending = silence }
+give_up_in s p = record { next = s; sending = silence }
 
 abbrev pub give_up : State → Parting
 give_up s = give_up_in s s.phase

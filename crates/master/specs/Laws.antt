@@ -12,10 +12,9 @@ use Rattle.sdo.specs.Answers as answer
 use Rattle.master.specs.declared.heard.Heard.TheVariants as heard
 use Rattle.master.specs.declared.method.Method.{Method}
 use Rattle.master.specs.declared.phase.Phase.{Phase}
-use Rattle.master.specs.declared.phase.Phase.TheVariants.{Idle, Open, Over}
+use Rattle.master.specs.declared.phase.Phase.TheVariants.{Open, Over}
 use Rattle.master.specs.declared.phase.Awaiting.{Awaiting}
 use Rattle.master.specs.declared.phase.Awaiting.TheVariants as awaiting
-use Rattle.master.specs.declared.phase.Ending.TheVariants.{Done, Failed}
 use Rattle.master.specs.declared.phase.Failure.{Failure}
 use Rattle.master.specs.declared.phase.Finder.TheVariants.{Node}
 use Rattle.master.specs.declared.refusal.BeginRefusal.TheVariants.{NotCleared, Resting}
@@ -26,9 +25,8 @@ use Rattle.master.specs.Calls.{Order, Write, Started, not_cleared, begin, tick}
 use Rattle.master.specs.Runs.{Call, after, Run}
 
 abbrev pub is_open : Phase → Bool
-is_open Idle = false
 is_open (Open w) = true
-is_open (Over e) = false
+is_open p = false
 
 -- from the begin of a write to the next begin the master sends at most 1,300 frames, its start and its abort too
 abbrev pub RepeatsAreBounded : Type 0
@@ -49,7 +47,7 @@ OnlyOpenTransfersEnd = (t : State) → is_open t.phase ≡ false → (tick t).en
 
 -- a master whose open transfer has just failed
 pub data JustFailed : State → Type 0 where
-  by_call : (s : State) (w : Awaiting) (c : Call) (f : Failure) → s.phase ≡ Open w → (after s c).phase ≡ Over (Failed f) → JustFailed (after s c)
+  by_call : (s : State) (w : Awaiting) (c : Call) (f : Failure) → s.phase ≡ Open w → (after s c).phase ≡ Over (Err f) → JustFailed (after s c)
 
 -- for the next 30 ticks it begins nothing, and resting is the reason once the transfer is cleared; the 30th quiets the line
 pub record Rests (n : ℕ) (t : State) : Type 0 where
@@ -79,12 +77,12 @@ pub record Awaited (s : State) (g : Frame) : Type 0 where
 
 -- success is told only where such a frame was heard
 abbrev pub SuccessIsAnswered : Type 0
-SuccessIsAnswered = (s : State) (f : Option Frame) → (hear s f).heard ≡ heard.Over → (hear s f).next.phase ≡ Over Done → (g : Frame) × ((f ≡ Some g) × Awaited s g)
+SuccessIsAnswered = (s : State) (f : Option Frame) → (hear s f).heard ≡ heard.Over → (hear s f).next.phase ≡ Over (Ok tt) → (g : Frame) × ((f ≡ Some g) × Awaited s g)
 
 -- what an abort that was heard comes to: the transfer fails by its code, and nothing is sent, but the line is quieted
 pub record EndedBy (s : State) (c : AbortCode) (f : Option Frame) : Type 0 where
   pub told : (hear s f).heard ≡ heard.Over
-  pub failure : (hear s f).next.phase ≡ Over (Failed (record { code = c; finder = Node; may_be_set = false; segment = s.highest }))
+  pub failure : (hear s f).next.phase ≡ Over (Err (record { code = c; finder = Node; may_be_set = false; segment = s.highest }))
   pub sending : (hear s f).sending ≡ record { quiet = true; frames = [] }
 
 abbrev pub AbortHeardEnds : Type 0

@@ -34,11 +34,8 @@ sent_in s GiveUp = (give_up s).sending.frames
 sent_in s Clear = []
 
 abbrev pub ticks_in : Call → ℕ
-ticks_in (Begin m o) = 0
-ticks_in (Hear f) = 0
 ticks_in Tick = 1
-ticks_in GiveUp = 0
-ticks_in Clear = 0
+ticks_in c = 0
 
 -- whether a call begins a transfer: a refused begin does not
 abbrev pub accepted : Result Started BeginRefusal → Bool
@@ -47,10 +44,7 @@ accepted (Err e) = false
 
 abbrev pub begins : State → Call → Bool
 begins s (Begin m o) = accepted (begin s m o).answer
-begins s (Hear f) = false
-begins s Tick = false
-begins s GiveUp = false
-begins s Clear = false
+begins s c = false
 
 -- calls of which none begins a transfer: the frames that were sent, the ticks, and the master afterwards
 pub data Run (s : State) : List Frame → ℕ → State → Type 0 where

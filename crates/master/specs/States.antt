@@ -1,10 +1,10 @@
 -- What a master is: whom it asks, how many transfers it has begun, how far the latest one is, and how long it has waited or has to rest.
-use Rattle.std.specs.Prelude.{ℕ, List, [], Some, None, Option}
+use Rattle.std.specs.Prelude.{ℕ, List, [], Some, None, Option, Result}
 use Rattle.wire.specs.declared.multiplexor.Multiplexor.{Multiplexor}
 use Rattle.wire.specs.declared.node_number.NodeNumber.{NodeNumber}
 use Rattle.master.specs.declared.phase.Phase.{Phase}
-use Rattle.master.specs.declared.phase.Phase.TheVariants.{Idle, Open, Over}
-use Rattle.master.specs.declared.phase.Ending.{Ending}
+use Rattle.master.specs.declared.phase.Phase.TheVariants.{Idle, Over}
+use Rattle.master.specs.declared.phase.Failure.{Failure}
 
 pub record State : Type 0 where
   pub node : NodeNumber
@@ -32,15 +32,13 @@ in_phase p s = record { node = s.node; begun = s.begun; phase = p; multiplexor =
 
 -- a transfer that is over is cleared, an open one stays
 abbrev pub cleared_phase : Phase → Phase
-cleared_phase Idle = Idle
-cleared_phase (Open w) = Open w
 cleared_phase (Over e) = Idle
+cleared_phase p = p
 
 abbrev pub clear : State → State
 clear s = in_phase (cleared_phase s.phase) s
 
 -- how a transfer that is over ended
-abbrev pub ending_in : Phase → Option Ending
-ending_in Idle = None
-ending_in (Open w) = None
+abbrev pub ending_in : Phase → Option (Result (Unit {0}) Failure)
 ending_in (Over e) = Some e
+ending_in p = None

@@ -1,5 +1,5 @@
 -- What comes of a frame at a master, by the answer that it awaits (CiA 301, 7.2.4.3: each protocol's figure, on the client's side).
-use Rattle.std.specs.Prelude.{ℕ, ◌+◌, ◌-◌, min, max, Bool, true, false, cond, List, [], ◌∷◌, ◌++◌, length, Some, None, Option, ◌==◌, nat_le, nat_lt}
+use Rattle.std.specs.Prelude.{ℕ, ◌+◌, ◌-◌, min, max, Bool, true, false, cond, List, [], ◌∷◌, ◌++◌, length, Some, None, Option, Ok, Err, ◌==◌, nat_le, nat_lt}
 use Rattle.wire.specs.declared.multiplexor.Multiplexor.{Multiplexor}
 use Rattle.wire.specs.declared.abort_code.AbortCode.{AbortCode}
 use Rattle.wire.specs.declared.abort_code.AbortCode.TheVariants.{UnknownCommand, ToggleNotAlternated, LengthMismatch, OutOfMemory, InvalidBlockSize, InvalidSequenceNumber}
@@ -23,7 +23,6 @@ use Rattle.master.specs.declared.phase.Phase.TheVariants as phase
 use Rattle.master.specs.declared.phase.Awaiting.{Awaiting}
 use Rattle.master.specs.declared.phase.Awaiting.TheVariants as awaiting
 use Rattle.master.specs.declared.phase.SubBlock.{SubBlock}
-use Rattle.master.specs.declared.phase.Ending.TheVariants.{Done, Failed}
 use Rattle.master.specs.declared.phase.Finder.{Finder}
 use Rattle.master.specs.declared.phase.Finder.TheVariants.{Master, Node}
 use Rattle.master.specs.Values.{segments, unused, is_last, may_come, differs, is_block_size, closing_crc, same_toggle}
@@ -39,20 +38,16 @@ pub record Step : Type 0 where
 -- whether the node may have set the value: the frame was sent after which it does
 abbrev pub may_have_set : Awaiting → List ℕ → Bool
 may_have_set awaiting.ExpeditedDownload v = true
-may_have_set awaiting.InitiateDownload v = false
 may_have_set (awaiting.DownloadSegment t k) v = is_last v k
-may_have_set awaiting.InitiateUpload v = false
-may_have_set (awaiting.UploadSegment t size) v = false
-may_have_set awaiting.InitiateBlockDownload v = false
-may_have_set (awaiting.BlockDownload x) v = false
 may_have_set awaiting.EndBlockDownload v = true
+may_have_set w v = false
 
 -- the transfer is over by a failure, and the master rests for 30 ticks
 abbrev pub failed : AbortCode → Finder → Bool → State → State
 failed c who maybe s = record {
   node = s.node;
   begun = s.begun;
-  phase = phase.Over (Failed (record { code = c; finder = who; may_be_set = maybe; segment = s.highest }));
+  phase = phase.Over (Err (record { code = c; finder = who; may_be_set = maybe; segment = s.highest }));
   multiplexor = s.multiplexor;
   value = s.value;
   highest = s.highest;
@@ -80,7 +75,7 @@ told s c = record { next = failed c Node false s; heard = heard.Over; sending = 
 -- the transfer has succeeded, with the value that was written or read
 abbrev pub done : State → List ℕ → Step
 done s v = record {
-  next = record { node = s.node; begun = s.begun; phase = phase.Over Done; multiplexor = s.multiplexor; value = v; highest = s.highest; ticks = s.ticks; rest = s.rest };
+  next = record { node = s.node; begun = s.begun; phase = phase.Over (Ok tt); multiplexor = s.multiplexor; value = v; highest = s.highest; ticks = s.ticks; rest = s.rest };
   heard = heard.Over;
   sending = silence;
 }
@@ -173,78 +168,37 @@ module _ (s : State) where
   abbrev pub hear_initiate_download : Awaiting → Multiplexor → Step
   hear_initiate_download awaiting.ExpeditedDownload m = started s awaiting.ExpeditedDownload m (done s s.value)
   hear_initiate_download awaiting.InitiateDownload m = started s awaiting.InitiateDownload m (send_segment s Zero 1)
-  hear_initiate_download (awaiting.DownloadSegment t k) m = unexpected s (awaiting.DownloadSegment t k)
-  hear_initiate_download awaiting.InitiateUpload m = unexpected s awaiting.InitiateUpload
-  hear_initiate_download (awaiting.UploadSegment t size) m = unexpected s (awaiting.UploadSegment t size)
-  hear_initiate_download awaiting.InitiateBlockDownload m = unexpected s awaiting.InitiateBlockDownload
-  hear_initiate_download (awaiting.BlockDownload x) m = unexpected s (awaiting.BlockDownload x)
-  hear_initiate_download awaiting.EndBlockDownload m = unexpected s awaiting.EndBlockDownload
+  hear_initiate_download w m = unexpected s w
 
   -- that to a segment of a write
   abbrev pub hear_download_segment : Awaiting → Toggle → Step
-  hear_download_segment awaiting.ExpeditedDownload u = unexpected s awaiting.ExpeditedDownload
-  hear_download_segment awaiting.InitiateDownload u = unexpected s awaiting.InitiateDownload
   hear_download_segment (awaiting.DownloadSegment t k) u = toggled s (awaiting.DownloadSegment t k) t u (segment_taken s t k)
-  hear_download_segment awaiting.InitiateUpload u = unexpected s awaiting.InitiateUpload
-  hear_download_segment (awaiting.UploadSegment t size) u = unexpected s (awaiting.UploadSegment t size)
-  hear_download_segment awaiting.InitiateBlockDownload u = unexpected s awaiting.InitiateBlockDownload
-  hear_download_segment (awaiting.BlockDownload x) u = unexpected s (awaiting.BlockDownload x)
-  hear_download_segment awaiting.EndBlockDownload u = unexpected s awaiting.EndBlockDownload
+  hear_download_segment w u = unexpected s w
 
   -- that to the start of a read
   abbrev pub hear_initiate_upload : Awaiting → Multiplexor → Transfer → Step
-  hear_initiate_upload awaiting.ExpeditedDownload m how = unexpected s awaiting.ExpeditedDownload
-  hear_initiate_upload awaiting.InitiateDownload m how = unexpected s awaiting.InitiateDownload
-  hear_initiate_upload (awaiting.DownloadSegment t k) m how = unexpected s (awaiting.DownloadSegment t k)
   hear_initiate_upload awaiting.InitiateUpload m how = started s awaiting.InitiateUpload m (upload_started s awaiting.InitiateUpload how)
-  hear_initiate_upload (awaiting.UploadSegment t size) m how = unexpected s (awaiting.UploadSegment t size)
-  hear_initiate_upload awaiting.InitiateBlockDownload m how = unexpected s awaiting.InitiateBlockDownload
-  hear_initiate_upload (awaiting.BlockDownload x) m how = unexpected s (awaiting.BlockDownload x)
-  hear_initiate_upload awaiting.EndBlockDownload m how = unexpected s awaiting.EndBlockDownload
+  hear_initiate_upload w m how = unexpected s w
 
   -- a segment of a read
   abbrev pub hear_upload_segment : Awaiting → Toggle → List ℕ → Bool → Step
-  hear_upload_segment awaiting.ExpeditedDownload u x last = unexpected s awaiting.ExpeditedDownload
-  hear_upload_segment awaiting.InitiateDownload u x last = unexpected s awaiting.InitiateDownload
-  hear_upload_segment (awaiting.DownloadSegment t k) u x last = unexpected s (awaiting.DownloadSegment t k)
-  hear_upload_segment awaiting.InitiateUpload u x last = unexpected s awaiting.InitiateUpload
   hear_upload_segment (awaiting.UploadSegment t size) u x last = toggled s (awaiting.UploadSegment t size) t u (read_on s (awaiting.UploadSegment t size) t size last (s.value ++ x))
-  hear_upload_segment awaiting.InitiateBlockDownload u x last = unexpected s awaiting.InitiateBlockDownload
-  hear_upload_segment (awaiting.BlockDownload y) u x last = unexpected s (awaiting.BlockDownload y)
-  hear_upload_segment awaiting.EndBlockDownload u x last = unexpected s awaiting.EndBlockDownload
+  hear_upload_segment w u x last = unexpected s w
 
   -- that to the start of a block write
   abbrev pub hear_initiate_block : Awaiting → Multiplexor → CrcOffer → ℕ → Step
-  hear_initiate_block awaiting.ExpeditedDownload m c n = unexpected s awaiting.ExpeditedDownload
-  hear_initiate_block awaiting.InitiateDownload m c n = unexpected s awaiting.InitiateDownload
-  hear_initiate_block (awaiting.DownloadSegment t k) m c n = unexpected s (awaiting.DownloadSegment t k)
-  hear_initiate_block awaiting.InitiateUpload m c n = unexpected s awaiting.InitiateUpload
-  hear_initiate_block (awaiting.UploadSegment t size) m c n = unexpected s (awaiting.UploadSegment t size)
   hear_initiate_block awaiting.InitiateBlockDownload m c n = started s awaiting.InitiateBlockDownload m (block_started s awaiting.InitiateBlockDownload c n)
-  hear_initiate_block (awaiting.BlockDownload x) m c n = unexpected s (awaiting.BlockDownload x)
-  hear_initiate_block awaiting.EndBlockDownload m c n = unexpected s awaiting.EndBlockDownload
+  hear_initiate_block w m c n = unexpected s w
 
   -- the acknowledgement of a sub-block
   abbrev pub hear_acknowledgement : Awaiting → ℕ → ℕ → Step
-  hear_acknowledgement awaiting.ExpeditedDownload a n = unexpected s awaiting.ExpeditedDownload
-  hear_acknowledgement awaiting.InitiateDownload a n = unexpected s awaiting.InitiateDownload
-  hear_acknowledgement (awaiting.DownloadSegment t k) a n = unexpected s (awaiting.DownloadSegment t k)
-  hear_acknowledgement awaiting.InitiateUpload a n = unexpected s awaiting.InitiateUpload
-  hear_acknowledgement (awaiting.UploadSegment t size) a n = unexpected s (awaiting.UploadSegment t size)
-  hear_acknowledgement awaiting.InitiateBlockDownload a n = unexpected s awaiting.InitiateBlockDownload
   hear_acknowledgement (awaiting.BlockDownload x) a n = acknowledge s x a n
-  hear_acknowledgement awaiting.EndBlockDownload a n = unexpected s awaiting.EndBlockDownload
+  hear_acknowledgement w a n = unexpected s w
 
   -- that to the end of a block write
   abbrev pub hear_end : Awaiting → Step
-  hear_end awaiting.ExpeditedDownload = unexpected s awaiting.ExpeditedDownload
-  hear_end awaiting.InitiateDownload = unexpected s awaiting.InitiateDownload
-  hear_end (awaiting.DownloadSegment t k) = unexpected s (awaiting.DownloadSegment t k)
-  hear_end awaiting.InitiateUpload = unexpected s awaiting.InitiateUpload
-  hear_end (awaiting.UploadSegment t size) = unexpected s (awaiting.UploadSegment t size)
-  hear_end awaiting.InitiateBlockDownload = unexpected s awaiting.InitiateBlockDownload
-  hear_end (awaiting.BlockDownload x) = unexpected s (awaiting.BlockDownload x)
   hear_end awaiting.EndBlockDownload = done s s.value
+  hear_end w = unexpected s w
 
   -- any answer; an abort ends the transfer, whatever its multiplexor
   abbrev pub answered : Awaiting → Answer → Step
@@ -267,9 +221,8 @@ module _ (s : State) where
 
   -- and so is every frame where no transfer is open
   abbrev pub hear_in : Phase → Frame → Step
-  hear_in phase.Idle f = unmoved s heard.Dropped
   hear_in (phase.Open w) f = hear_open w f
-  hear_in (phase.Over e) f = unmoved s heard.Dropped
+  hear_in p f = unmoved s heard.Dropped
 
   abbrev pub take_in : Option Frame → Step
   take_in None = unmoved s heard.NothingWaited

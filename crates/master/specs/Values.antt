@@ -1,15 +1,10 @@
 -- A value as its segments cut it: seven bytes each, the last one up to seven.
-use Rattle.std.specs.Prelude.{ℕ, ◌+◌, ◌-◌, ◌*◌, ◌/◌, Bool, true, false, not, ◌&&◌, List, length, take, Some, None, Option, ◌==◌, nat_le}
+use Rattle.std.specs.Prelude.{ℕ, ◌+◌, ◌-◌, ◌*◌, ◌/◌, Bool, true, false, not, ◌&&◌, List, length, Some, None, Option, ◌==◌, nat_le}
 use Rattle.crc.specs.Registers.{crc}
 use Rattle.sdo.specs.declared.crc_offer.CrcOffer.{CrcOffer}
 use Rattle.sdo.specs.declared.crc_offer.CrcOffer.TheVariants.{Offered, NotOffered}
 use Rattle.sdo.specs.declared.toggle.Toggle.{Toggle}
 use Rattle.sdo.specs.declared.toggle.Toggle.TheVariants.{Zero, One}
-use Rattle.master.specs.declared.value.Value.{Value}
-
--- the bytes that a buffer with a length stands for
-abbrev pub shown_value : Value → List ℕ
-shown_value v = take v.len v.bytes
 
 -- how many segments a value has, and how many bytes of the last one are not of the value
 abbrev pub segments : List ℕ → ℕ

@@ -1,11 +1,10 @@
 //! A master: the SDO client of CiA 301, which carries out one transfer at a time.
 ghost use Rattle.std.specs.Prelude.{◌≡◌};
-ghost use Rattle.master.specs.Values.{shown_value};
 ghost use Rattle.master.specs.States.{fresh, clear, ending_in};
-ghost use Rattle.master.specs.Shown.{shown};
 
 use crate::phase::{Ending, Phase};
 use crate::value::Value;
+use std::marker::Model;
 use wire::{Multiplexor, NodeNumber};
 
 mod answers;
@@ -30,10 +29,18 @@ pub struct Master {
     rest: u8,
 }
 
+impl Model for Master {
+    ghost use Rattle.master.specs.States.{State};
+
+    ghost Value = { State };
+
+    ghost view = { λ m. record { node = m.node; begun = m.begun; phase = m.phase; multiplexor = m.multiplexor; value = m.value.items; highest = m.highest; ticks = m.ticks; rest = m.rest } };
+}
+
 impl Master {
     /// A master of a node that has begun nothing.
     pub fn new(node: NodeNumber) -> Master
-        ensures { shown result ≡ fresh node }
+        ensures { result ≡ fresh node }
     {
         Master {
             node,
@@ -56,20 +63,20 @@ impl Master {
     {
         match self.phase {
             Phase::Over(ending) => Some(ending),
-            Phase::Idle | Phase::Open(_) => None,
+            _ => None,
         }
     }
 
     /// The bytes that the latest transfer has read, or the value that it writes.
     pub fn value(&self) -> &[u8]
-        ensures { result.now ≡ shown_value self.now.value }
+        ensures { result.now ≡ self.now.value }
     {
-        self.value.bytes()
+        &self.value
     }
 
     /// Clears a transfer that is over; an open one stays.
     pub fn clear(&mut self)
-        ensures { shown self.new ≡ clear (shown self.old) }
+        ensures { self.new ≡ clear self.old }
     {
         if let Phase::Over(_) = self.phase {
             self.phase = Phase::Idle;

@@ -14,6 +14,7 @@ pub enum Phase {
 }
 
 /// The answer that an open transfer awaits.
+// A toggle with a number or a size is no struct: two functions take each pair, and their cases name it here.
 #[derive(Clone, Copy)]
 pub enum Awaiting {
     /// That to the start of a write that carries its value.
@@ -47,14 +48,8 @@ pub struct SubBlock {
     pub short: u8,
 }
 
-/// How a transfer ended.
-#[derive(Clone, Copy)]
-pub enum Ending {
-    /// By success.
-    Done,
-    /// By an abort, sent or heard.
-    Failed(Failure),
-}
+/// How a transfer ended: by success, or by an abort, sent or heard.
+pub type Ending = Result<(), Failure>;
 
 /// Why a transfer failed, and how far it was.
 #[derive(Clone, Copy)]
@@ -62,6 +57,7 @@ pub struct Failure {
     pub code: AbortCode,
     pub finder: Finder,
     /// Whether the node may have set the value all the same.
+    // Not in `Finder::Master`: a report tells it of every failure, and would have to match on the finder first.
     pub may_be_set: bool,
     /// The highest segment of the value that was sent or asked for; 0 if none was.
     pub segment: u16,

@@ -12,7 +12,7 @@ pub struct Sending {
 /// Frames that are sent in one go; `Master::frame` gives each.
 #[derive(Clone, Copy)]
 pub enum Batch {
-    /// No frame.
+    /// No frame. A case and no `Option`, so that `Master::frame` takes whatever is to be sent.
     Nothing,
     /// The frame of a request.
     Message(Request),
@@ -35,6 +35,7 @@ pub struct Hearing {
 }
 
 /// What came of a tick: whether it ended the transfer.
+// No enum: what is to be done on the line is told of every tick, and a caller does it in the same way.
 #[derive(Clone, Copy)]
 pub struct Tick {
     pub ended: bool,

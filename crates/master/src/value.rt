@@ -1,13 +1,65 @@
-//! The value that is written, or what has been read of one.
-ghost use Rattle.std.specs.Prelude.{◌≡◌, ◌≤◌, length};
+//! The value that is written, or what has been read of one, and the segments that it is cut into.
+ghost use Rattle.std.specs.Prelude.{◌≡◌, ◌≤◌, IsTrue};
+ghost use Rattle.sdo.specs.Fields.{padded};
+ghost use Rattle.sdo.specs.Segments.{segment, data_value};
+ghost use Rattle.master.specs.Values.{segments, unused, is_last, closing_crc};
 
-mod methods;
+use arrayvec::ArrayVec;
+use sdo::{CrcOffer, SegmentData, UnusedBytes};
 
-/// Up to 1,024 bytes.
-#[derive(Drop)]
-pub(crate) struct Value {
-    bytes: [u8; 1024],
-    len: u16,
-    ghost few: { len ≤ 1024 },
-    ghost whole: { length bytes ≡ 1024 },
+/// How many bytes a value has at most.
+pub(crate) const CAPACITY: usize = 1024;
+
+/// The bytes of a value.
+pub(crate) type Value = ArrayVec<u8, CAPACITY>;
+
+/// How many segments there are.
+pub(crate) fn segments(value: &Value) -> usize
+    ensures value { result ≡ segments value.now.items }
+    ensures bound { result ≤ 147 }
+{
+    value.len().div_ceil(7)
+}
+
+/// Whether a segment is the last.
+pub(crate) fn is_last(value: &Value, number: usize) -> bool
+    requires { number ≤ 65792 }
+    ensures value { result ≡ is_last value.now.items number }
+    ensures late { 147 ≤ number → IsTrue result }
+{
+    value.len() <= 7 * number
+}
+
+/// The data of a segment.
+pub(crate) fn segment(value: &Value, number: usize) -> SegmentData
+    ensures { data_value result ≡ segment number value.now.items }
+{
+    SegmentData::new(sdo::segment(value, number)).unwrap()
+}
+
+/// A segment as block segments carry it: seven bytes, zero where the value does not use them.
+pub(crate) fn padded_segment(value: &Value, number: usize) -> [u8; 7]
+    ensures { result ≡ padded 7 (segment number value.now.items) }
+{
+    let part = sdo::segment(value, number);
+    let mut bytes = [0; 7];
+    bytes[0..part.len()].copy_from_slice(part);
+    bytes
+}
+
+/// How many bytes of the last segment are not of the value.
+pub(crate) fn unused(value: &Value) -> UnusedBytes
+    ensures { result.number ≡ unused value.now.items }
+{
+    UnusedBytes::new((7 * segments(value) - value.len()) as u8).unwrap()
+}
+
+/// The CRC at the end of a block write, zero where the node offered none.
+pub(crate) fn closing_crc(value: &Value, offer: CrcOffer) -> u16
+    ensures { result ≡ closing_crc offer value.now.items }
+{
+    match offer {
+        CrcOffer::Offered => crc::checksum(value),
+        CrcOffer::NotOffered => 0,
+    }
 }

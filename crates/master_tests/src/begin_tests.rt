@@ -1,20 +1,14 @@
 //! What a master begins, and what it refuses.
 use crate::runs::*;
-use master::{BeginRefusal, Master, Method};
+use master::{BeginRefusal, Method};
 use std::process::Abort;
 use std::test::Fail;
-use wire::NodeNumber;
 
 /// Checks that a write of a value is refused by a number.
 fn check_refused(rt: &impl Abort, method: Method, value: &[u8], number: u8) -> Result<(), Fail> {
-    let mut master = Master::new(NodeNumber::nearest(5));
-    match master.begin_write(method, PLACE, value) {
-        Ok(_) => Err(Fail::new("begun")),
-        Err(refusal) => {
-            assert!(rt; refusal.number() == number);
-            Ok(())
-        },
-    }
+    let refusal = refusal(fresh().begin_write(method, PLACE, value))?;
+    assert!(rt; refusal.number() == number);
+    Ok(())
 }
 
 #[test]
@@ -35,19 +29,10 @@ fn four_bytes_go_at_once(rt: HostRuntime) -> Result<(), Fail> {
 #[test]
 fn one_transfer_at_a_time(rt: HostRuntime) -> Result<(), Fail> {
     let mut master = reading()?;
-    let Err(refusal) = master.begin_read(PLACE) else {
-        return Err(Fail::new("begun"));
-    };
-    assert!(rt; refusal == BeginRefusal::NotCleared);
+    assert!(rt; refusal(master.begin_read(PLACE))? == BeginRefusal::NotCleared);
     check_done(&rt, &mut master, [0x43, 1, 0x20, 0, 1, 2, 3, 4])?;
-    let Err(refusal) = master.begin_read(PLACE) else {
-        return Err(Fail::new("begun"));
-    };
-    assert!(rt; refusal.number() == 1);
+    assert!(rt; refusal(master.begin_read(PLACE))?.number() == 1);
     master.clear();
-    let Ok(begun) = master.begin_read(PLACE) else {
-        return Err(Fail::new("refused"));
-    };
-    assert!(rt; begun.number == 2);
+    assert!(rt; begun(master.begin_read(PLACE))?.number == 2);
     Ok(())
 }

@@ -1,19 +1,17 @@
 //! Transfers with a partner that does all as it should.
 use crate::runs::*;
-use master::{Heard, Master, Method};
+use master::{Heard, Method};
 use std::test::Fail;
-use wire::{Multiplexor, NodeNumber};
+use wire::Multiplexor;
 
 #[test]
 fn the_ramp_is_set(rt: HostRuntime) -> Result<(), Fail> {
-    let mut master = Master::new(NodeNumber::nearest(5));
+    let mut master = fresh();
     let ramp = Multiplexor {
         index: 0x2000,
         subindex: 1,
     };
-    let Ok(begun) = master.begin_write(Method::Expedited, ramp, &[0xe8, 3]) else {
-        return Err(Fail::new("refused"));
-    };
+    let begun = begun(master.begin_write(Method::Expedited, ramp, &[0xe8, 3]))?;
     assert!(rt; begun.number == 1 && begun.sending.quiet);
     check_one(
         &rt,
@@ -26,14 +24,12 @@ fn the_ramp_is_set(rt: HostRuntime) -> Result<(), Fail> {
 
 #[test]
 fn the_name_is_read(rt: HostRuntime) -> Result<(), Fail> {
-    let mut master = Master::new(NodeNumber::nearest(5));
+    let mut master = fresh();
     let name = Multiplexor {
         index: 0x1008,
         subindex: 0,
     };
-    let Ok(begun) = master.begin_read(name) else {
-        return Err(Fail::new("refused"));
-    };
+    let begun = begun(master.begin_read(name))?;
     check_one(&rt, &master, begun.sending, [0x40, 8, 0x10, 0, 0, 0, 0, 0])?;
     check_goes_on(
         &rt,
@@ -88,10 +84,8 @@ fn digits_go_in_segments(rt: HostRuntime) -> Result<(), Fail> {
 
 #[test]
 fn a_block_write_starts_with_size_and_crc(rt: HostRuntime) -> Result<(), Fail> {
-    let mut master = Master::new(NodeNumber::nearest(5));
-    let Ok(begun) = master.begin_write(Method::Block, PLACE, &DIGITS) else {
-        return Err(Fail::new("refused"));
-    };
+    let mut master = fresh();
+    let begun = begun(master.begin_write(Method::Block, PLACE, &DIGITS))?;
     check_one(&rt, &master, begun.sending, [0xc6, 1, 0x20, 0, 9, 0, 0, 0])
 }
 

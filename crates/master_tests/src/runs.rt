@@ -1,5 +1,5 @@
 //! What the tests of a master of node 5 have in common.
-use master::{Ending, Failure, Finder, Heard, Master, Method, Sending};
+use master::{BeginRefusal, Begun, Failure, Finder, Heard, Hearing, Master, Method, Sending};
 use std::process::Abort;
 use std::test::Fail;
 use wire::{AbortCode, Frame, Identifier, Multiplexor, NodeNumber};
@@ -13,22 +13,36 @@ pub(crate) const PLACE: Multiplexor = Multiplexor {
     subindex: 0,
 };
 
+/// A master of node 5 that has begun nothing.
+pub(crate) fn fresh() -> Master {
+    Master::new(NodeNumber::nearest(5))
+}
+
+/// The transfer that was begun.
+pub(crate) fn begun(answer: Result<Begun, BeginRefusal>) -> Result<Begun, Fail> {
+    answer.map_err(|_| Fail::new("refused"))
+}
+
+/// Why no transfer was begun.
+pub(crate) fn refusal(answer: Result<Begun, BeginRefusal>) -> Result<BeginRefusal, Fail> {
+    match answer {
+        Ok(_) => Err(Fail::new("begun")),
+        Err(refusal) => Ok(refusal),
+    }
+}
+
 /// A master that has begun to write to 2001:00.
 pub(crate) fn writing(method: Method, value: &[u8]) -> Result<Master, Fail> {
-    let mut master = Master::new(NodeNumber::nearest(5));
-    match master.begin_write(method, PLACE, value) {
-        Ok(_) => Ok(master),
-        Err(_) => Err(Fail::new("the write was refused")),
-    }
+    let mut master = fresh();
+    begun(master.begin_write(method, PLACE, value))?;
+    Ok(master)
 }
 
 /// A master that has begun to read 2001:00.
 pub(crate) fn reading() -> Result<Master, Fail> {
-    let mut master = Master::new(NodeNumber::nearest(5));
-    match master.begin_read(PLACE) {
-        Ok(_) => Ok(master),
-        Err(_) => Err(Fail::new("the read was refused")),
-    }
+    let mut master = fresh();
+    begun(master.begin_read(PLACE))?;
+    Ok(master)
 }
 
 /// A master that reads 2001:00 in segments, and has asked for the first.
@@ -46,7 +60,7 @@ pub(crate) fn writing_block() -> Result<Master, Fail> {
 }
 
 /// Lets a master hear a frame of node 5.
-pub(crate) fn hear(master: &mut Master, bytes: [u8; 8]) -> master::Hearing {
+pub(crate) fn hear(master: &mut Master, bytes: [u8; 8]) -> Hearing {
     let identifier = Identifier::of_answers(NodeNumber::nearest(5));
     master.hear(Some(Frame { identifier, bytes }))
 }
@@ -99,7 +113,7 @@ pub(crate) fn check_done(rt: &impl Abort, master: &mut Master, heard: [u8; 8]) -
     assert!(rt; !hearing.sending.quiet);
     assert!(rt; master.frame(hearing.sending.batch, 0).is_none());
     match master.ending() {
-        Some(Ending::Done) => Ok(()),
+        Some(Ok(())) => Ok(()),
         _ => Err(Fail::new("not done")),
     }
 }
@@ -107,7 +121,7 @@ pub(crate) fn check_done(rt: &impl Abort, master: &mut Master, heard: [u8; 8]) -
 /// The failure of a master's transfer.
 pub(crate) fn failure(master: &Master) -> Result<Failure, Fail> {
     match master.ending() {
-        Some(Ending::Failed(failure)) => Ok(failure),
+        Some(Err(failure)) => Ok(failure),
         _ => Err(Fail::new("not failed")),
     }
 }

@@ -4,21 +4,22 @@ ghost use Rattle.master.specs.declared.refusal.BeginRefusal.TheVariants.{NotExpe
 ghost use Rattle.sdo.specs.Requests.{shown_request, InitiateDownload};
 ghost use Rattle.sdo.specs.Transfers.{Expedited};
 ghost use Rattle.master.specs.Calls.{Read, Write, start as start_of, write_awaited, free, opened, starting, begin};
-ghost use Rattle.master.specs.Shown.{shown, shown_start, Begins};
+ghost use Rattle.master.specs.Shown.{shown_start, Begins};
 
 use super::Master;
 use crate::method::Method;
 use crate::phase::{Awaiting, Phase};
 use crate::refusal::BeginRefusal;
 use crate::sending::{Batch, Begun, Sending};
-use crate::value::Value;
+use crate::value::{CAPACITY, Value};
 use sdo::{CrcOffer, ExpeditedData, Request, Transfer};
 use wire::Multiplexor;
 
 impl Master {
     /// Begins a read, or says why not.
+    #[tactic(auto, unfolding(crate::specs::Calls::begin))]
     pub fn begin_read(&mut self, multiplexor: Multiplexor) -> Result<Begun, BeginRefusal>
-        ensures { Begins (begin (shown self.old) multiplexor Read) self.new result }
+        ensures { Begins (begin self.old multiplexor Read) self.new result }
     {
         self.free()?;
         self.value = Value::new();
@@ -27,40 +28,37 @@ impl Master {
     }
 
     /// Begins a write of a value, or says why not.
+    #[tactic(auto, unfolding(crate::specs::Calls::begin))]
     pub fn begin_write(
         &mut self,
         method: Method,
         multiplexor: Multiplexor,
         value: &[u8],
     ) -> Result<Begun, BeginRefusal>
-        ensures { Begins (begin (shown self.old) multiplexor (Write method value.now)) self.new result }
+        ensures { Begins (begin self.old multiplexor (Write method value.now)) self.new result }
     {
         self.free()?;
         let start = write_start(method, multiplexor, value)?;
-        self.value = Value::of(value);
+        self.value = Value::try_from(value).unwrap();
         Ok(self.open(multiplexor, write_awaited(method), start))
     }
 
     /// Whether nothing speaks against a transfer, or what does.
     fn free(&self) -> Result<(), BeginRefusal>
-        ensures { result ≡ free (shown self.now) }
+        ensures { result ≡ free self.now }
     {
-        if let Phase::Open(_) | Phase::Over(_) = self.phase {
-            return Err(BeginRefusal::NotCleared);
-        }
-        if self.rest > 0 {
-            Err(BeginRefusal::Resting)
-        } else if self.begun == u16::MAX {
-            Err(BeginRefusal::AllBegun)
-        } else {
-            Ok(())
+        match self.phase {
+            Phase::Open(_) | Phase::Over(_) => Err(BeginRefusal::NotCleared),
+            Phase::Idle if self.rest > 0 => Err(BeginRefusal::Resting),
+            Phase::Idle if self.begun == u16::MAX => Err(BeginRefusal::AllBegun),
+            Phase::Idle => Ok(()),
         }
     }
 
     /// Opens the next transfer by its start.
     fn open(&mut self, multiplexor: Multiplexor, awaiting: Awaiting, start: Request) -> Begun
         requires { self.old.begun < 65535 }
-        ensures { Begins (record { next = opened (shown self.old) multiplexor awaiting (shown self.old).value; answer = Ok (starting (shown self.old) (shown_request start)) }) self.new (Ok result) }
+        ensures { Begins (record { next = opened self.old multiplexor awaiting self.old.value; answer = Ok (starting self.old (shown_request start)) }) self.new (Ok result) }
     {
         self.begun += 1;
         self.phase = Phase::Open(awaiting);
@@ -85,7 +83,7 @@ fn write_start(
 ) -> Result<Request, BeginRefusal>
     ensures { shown_start result ≡ start_of multiplexor (Write method value.now) }
 {
-    if value.len() < 1 || value.len() > 1024 {
+    if value.is_empty() || value.len() > CAPACITY {
         return Err(BeginRefusal::ValueLength);
     }
     let size = Some(value.len() as u32);

@@ -1,11 +1,12 @@
 //! Block writes: sub-blocks, their acknowledgements and the end (CiA 301, 7.2.4.3: SDO block download).
 ghost use Rattle.std.specs.Prelude.{◌≡◌, ◌≤◌};
 ghost use Rattle.master.specs.Steps.{send_sub_block, send_end, go_on, block_started, kept, acknowledge};
-ghost use Rattle.master.specs.Shown.{shown, Follows};
+ghost use Rattle.master.specs.Shown.{Follows};
 
 use super::Master;
 use crate::phase::{Awaiting, SubBlock};
 use crate::sending::{Batch, Hearing};
+use crate::value::{closing_crc, segments, unused};
 use sdo::{BlockSize, CrcOffer, Request};
 use wire::AbortCode;
 
@@ -20,7 +21,7 @@ impl Master {
         crc: CrcOffer,
         block_size: u8,
     ) -> Hearing
-        ensures { Follows (block_started (shown self.old) awaiting crc block_size) self.new result }
+        ensures { Follows (block_started self.old awaiting crc block_size) self.new result }
     {
         match BlockSize::new(block_size) {
             Some(size) => self.go_on(crc, size, 0, 0),
@@ -35,7 +36,7 @@ impl Master {
         last_kept: u8,
         block_size: u8,
     ) -> Hearing
-        ensures { Follows (acknowledge (shown self.old) sub_block last_kept block_size) self.new result }
+        ensures { Follows (acknowledge self.old sub_block last_kept block_size) self.new result }
     {
         match BlockSize::new(block_size) {
             Some(size) => self.keep(sub_block, last_kept, size),
@@ -48,7 +49,7 @@ impl Master {
 
     /// The node has kept a sub-block up to a segment.
     fn keep(&mut self, sub_block: SubBlock, last_kept: u8, size: BlockSize) -> Hearing
-        ensures { Follows (kept (shown self.old) sub_block last_kept size.number) self.new result }
+        ensures { Follows (kept self.old sub_block last_kept size.number) self.new result }
     {
         let acknowledged = sub_block.acknowledged as usize + last_kept as usize;
         if last_kept > sub_block.count {
@@ -70,9 +71,9 @@ impl Master {
 
     /// The next sub-block is sent, or the end after the last one.
     fn go_on(&mut self, crc: CrcOffer, size: BlockSize, acknowledged: usize, short: u8) -> Hearing
-        ensures { Follows (go_on (shown self.old) crc size.number acknowledged short) self.new result }
+        ensures { Follows (go_on self.old crc size.number acknowledged short) self.new result }
     {
-        let segments = self.value.segments();
+        let segments = segments(&self.value);
         if segments <= acknowledged {
             self.send_end(crc)
         } else {
@@ -89,7 +90,7 @@ impl Master {
     /// A sub-block is sent.
     fn send_sub_block(&mut self, sub_block: SubBlock) -> Hearing
         requires { (sub_block.acknowledged ≤ 147) × ((1 ≤ sub_block.count) × (sub_block.count ≤ 127)) }
-        ensures { Follows (send_sub_block (shown self.old) sub_block.crc sub_block.acknowledged sub_block.count sub_block.short) self.new result }
+        ensures { Follows (send_sub_block self.old sub_block.crc sub_block.acknowledged sub_block.count sub_block.short) self.new result }
     {
         let highest = self
             .highest
@@ -106,11 +107,11 @@ impl Master {
 
     /// The end of a block write is sent.
     fn send_end(&mut self, crc: CrcOffer) -> Hearing
-        ensures { Follows (send_end (shown self.old) crc) self.new result }
+        ensures { Follows (send_end self.old crc) self.new result }
     {
         let request = Request::EndBlockDownload {
-            unused: self.value.unused(),
-            crc: self.value.closing_crc(crc),
+            unused: unused(&self.value),
+            crc: closing_crc(&self.value, crc),
         };
         self.send(
             Awaiting::EndBlockDownload,

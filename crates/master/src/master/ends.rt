@@ -1,14 +1,14 @@
 //! How a transfer ends: by success, by an abort that is sent, or by one that was heard (CiA 301, 7.2.4.3.17).
 ghost use Rattle.std.specs.Prelude.{◌≡◌};
-ghost use Rattle.master.specs.Values.{shown_value};
 ghost use Rattle.master.specs.Calls.{Parting};
 ghost use Rattle.master.specs.Steps.{may_have_set, failed, abandoned, parting, found, told, done, unmoved};
-ghost use Rattle.master.specs.Shown.{shown, Follows, Parts};
+ghost use Rattle.master.specs.Shown.{Follows, Parts};
 
 use super::Master;
 use crate::heard::Heard;
-use crate::phase::{Awaiting, Ending, Failure, Finder, Phase};
+use crate::phase::{Awaiting, Failure, Finder, Phase};
 use crate::sending::{Batch, Hearing, Sending};
+use crate::value::is_last;
 use sdo::Request;
 use wire::AbortCode;
 
@@ -24,9 +24,9 @@ pub(crate) const SILENCE: Sending = Sending {
 impl Master {
     /// The transfer has succeeded.
     pub(crate) fn succeed(&mut self) -> Hearing
-        ensures { Follows (done (shown self.old) (shown_value self.old.value)) self.new result }
+        ensures { Follows (done self.old self.old.value) self.new result }
     {
-        self.phase = Phase::Over(Ending::Done);
+        self.phase = Phase::Over(Ok(()));
         Hearing {
             heard: Heard::Over,
             sending: SILENCE,
@@ -34,8 +34,9 @@ impl Master {
     }
 
     /// The master has found a reason to end the transfer.
+    #[tactic(auto, unfolding(crate::specs::Steps::found))]
     pub(crate) fn find(&mut self, awaiting: Awaiting, code: AbortCode) -> Hearing
-        ensures { Follows (found (shown self.old) awaiting code) self.new result }
+        ensures { Follows (found self.old awaiting code) self.new result }
     {
         Hearing {
             heard: Heard::Over,
@@ -44,8 +45,9 @@ impl Master {
     }
 
     /// The node has ended the transfer.
+    #[tactic(auto, unfolding(crate::specs::Steps::told))]
     pub(crate) fn end_by_node(&mut self, code: AbortCode) -> Hearing
-        ensures { Follows (told (shown self.old) code) self.new result }
+        ensures { Follows (told self.old code) self.new result }
     {
         self.fail(code, Finder::Node, false);
         Hearing {
@@ -58,8 +60,9 @@ impl Master {
     }
 
     /// Ends the open transfer by an abort.
+    #[tactic(auto, unfolding(crate::specs::Steps::parting))]
     pub(crate) fn abandon(&mut self, awaiting: Awaiting, code: AbortCode) -> Sending
-        ensures { Parts (record { next = abandoned awaiting code (shown self.old); sending = parting code (shown self.old) }) self.new result }
+        ensures { Parts (record { next = abandoned awaiting code self.old; sending = parting code self.old }) self.new result }
     {
         let may_be_set = self.may_be_set(awaiting);
         self.fail(code, Finder::Master, may_be_set);
@@ -74,9 +77,9 @@ impl Master {
 
     /// Notes a failure, after which the master rests.
     fn fail(&mut self, code: AbortCode, finder: Finder, may_be_set: bool)
-        ensures { shown self.new ≡ failed code finder may_be_set (shown self.old) }
+        ensures { self.new ≡ failed code finder may_be_set self.old }
     {
-        self.phase = Phase::Over(Ending::Failed(Failure {
+        self.phase = Phase::Over(Err(Failure {
             code,
             finder,
             may_be_set,
@@ -87,23 +90,18 @@ impl Master {
 
     /// Whether the node may have set the value: the frame was sent after which it does.
     fn may_be_set(&self, awaiting: Awaiting) -> bool
-        ensures { result ≡ may_have_set awaiting (shown_value self.now.value) }
+        ensures { result ≡ may_have_set awaiting self.now.value }
     {
         match awaiting {
-            Awaiting::ExpeditedDownload => true,
-            Awaiting::InitiateDownload => false,
-            Awaiting::DownloadSegment { number, .. } => self.value.is_last(number as usize),
-            Awaiting::InitiateUpload => false,
-            Awaiting::UploadSegment { .. } => false,
-            Awaiting::InitiateBlockDownload => false,
-            Awaiting::BlockDownload { .. } => false,
-            Awaiting::EndBlockDownload => true,
+            Awaiting::ExpeditedDownload | Awaiting::EndBlockDownload => true,
+            Awaiting::DownloadSegment { number, .. } => is_last(&self.value, number as usize),
+            _ => false,
         }
     }
 
     /// Nothing has changed.
     pub(crate) fn stay(&mut self, heard: Heard) -> Hearing
-        ensures { Follows (unmoved (shown self.old) heard) self.new result }
+        ensures { Follows (unmoved self.old heard) self.new result }
     {
         Hearing {
             heard,

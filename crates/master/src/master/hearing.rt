@@ -1,6 +1,6 @@
 //! What a master does with a frame, or with none.
-ghost use Rattle.master.specs.Steps.{hear, take_in, hear_in, hear_open};
-ghost use Rattle.master.specs.Shown.{shown, Follows};
+ghost use Rattle.master.specs.Steps.{hear, hear_in, hear_open};
+ghost use Rattle.master.specs.Shown.{Follows};
 
 use super::Master;
 use crate::heard::Heard;
@@ -11,15 +11,9 @@ use wire::{AbortCode, Frame, Identifier};
 
 impl Master {
     /// Takes what the line had for the master.
+    #[tactic(auto, unfolding(crate::specs::Steps::hear))]
     pub fn hear(&mut self, taken: Option<Frame>) -> Hearing
-        ensures { Follows (hear (shown self.old) taken) self.new result }
-    {
-        self.take_in(taken)
-    }
-
-    /// Takes a frame, or finds none.
-    fn take_in(&mut self, taken: Option<Frame>) -> Hearing
-        ensures { Follows (take_in (shown self.old) taken) self.new result }
+        ensures { Follows (hear self.old taken) self.new result }
     {
         match taken {
             None => self.stay(Heard::NothingWaited),
@@ -29,20 +23,20 @@ impl Master {
 
     /// Takes a frame; without an open transfer it is dropped.
     fn hear_frame(&mut self, frame: Frame) -> Hearing
-        ensures { Follows (hear_in (shown self.old) self.old.phase frame) self.new result }
+        ensures { Follows (hear_in self.old self.old.phase frame) self.new result }
     {
         match self.phase {
-            Phase::Idle => self.stay(Heard::Dropped),
             Phase::Open(awaiting) => self.hear_open(awaiting, frame),
-            Phase::Over(_) => self.stay(Heard::Dropped),
+            Phase::Idle | Phase::Over(_) => self.stay(Heard::Dropped),
         }
     }
 
     /// Takes a frame in an open transfer; one that is not from the node is dropped.
+    #[tactic(auto, using(crate::proofs::Addressing::addressed))]
     fn hear_open(&mut self, awaiting: Awaiting, frame: Frame) -> Hearing
-        ensures { Follows (hear_open (shown self.old) awaiting frame) self.new result }
+        ensures { Follows (hear_open self.old awaiting frame) self.new result }
     {
-        if frame.identifier.number() != Identifier::of_answers(self.node).number() {
+        if frame.identifier != Identifier::of_answers(self.node) {
             return self.stay(Heard::Dropped);
         }
         match Answer::from_bytes(frame.bytes) {

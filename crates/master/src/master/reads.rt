@@ -5,23 +5,23 @@ ghost use Rattle.sdo.specs.Transfers.{shown_transfer, Segmented};
 ghost use Rattle.master.specs.declared.phase.Awaiting.TheVariants.{UploadSegment};
 ghost use Rattle.master.specs.Values.{may_come, differs};
 ghost use Rattle.master.specs.Steps.{ask_segment, upload_started, read_whole, read_on};
-ghost use Rattle.master.specs.Shown.{shown, Follows};
+ghost use Rattle.master.specs.Shown.{Follows};
 
 use super::Master;
 use crate::phase::Awaiting;
 use crate::sending::{Batch, Hearing};
-use crate::value::Value;
+use crate::value::{CAPACITY, Value};
 use sdo::{Request, SegmentData, Toggle, Transfer};
 use wire::AbortCode;
 
 impl Master {
     /// The node gives the value, or announces it.
     pub(crate) fn start_reading(&mut self, awaiting: Awaiting, transfer: Transfer) -> Hearing
-        ensures { Follows (upload_started (shown self.old) awaiting (shown_transfer transfer)) self.new result }
+        ensures { Follows (upload_started self.old awaiting (shown_transfer transfer)) self.new result }
     {
         match transfer {
             Transfer::Expedited { data } => {
-                self.value = Value::of(data.value());
+                self.value = Value::try_from(data.value()).unwrap();
                 self.succeed()
             }
             Transfer::Segmented { size } => self.start_segments(awaiting, size),
@@ -30,7 +30,7 @@ impl Master {
 
     /// The value comes in segments.
     fn start_segments(&mut self, awaiting: Awaiting, size: Option<u32>) -> Hearing
-        ensures { Follows (upload_started (shown self.old) awaiting (Segmented size)) self.new result }
+        ensures { Follows (upload_started self.old awaiting (Segmented size)) self.new result }
     {
         if may_come(size) {
             self.value = Value::new();
@@ -48,41 +48,39 @@ impl Master {
         data: SegmentData,
         last: bool,
     ) -> Hearing
-        ensures { Follows (read_on (shown self.old) (UploadSegment toggle size) toggle size last ((shown self.old).value ++ data_value «data»)) self.new result }
+        ensures { Follows (read_on self.old (UploadSegment toggle size) toggle size last (self.old.value ++ data_value «data»)) self.new result }
     {
-        let total = self.value.len_with(data);
-        if total > 1024 {
-            self.find(
-                Awaiting::UploadSegment { toggle, size },
-                AbortCode::OutOfMemory,
-            )
+        let awaiting = Awaiting::UploadSegment { toggle, size };
+        let total = self.value.len() + data.value().len();
+        if total > CAPACITY {
+            self.find(awaiting, AbortCode::OutOfMemory)
         } else if last {
-            self.read_whole(Awaiting::UploadSegment { toggle, size }, size, data)
+            self.read_whole(awaiting, size, data)
         } else {
-            self.value.append(data.value());
+            self.value.try_extend_from_slice(data.value()).unwrap();
             self.ask_segment(toggle.other(), size)
         }
     }
 
     /// The last segment of the value is there.
     fn read_whole(&mut self, awaiting: Awaiting, size: Option<u32>, data: SegmentData) -> Hearing
-        requires { length ((shown self.old).value ++ data_value «data») ≤ 1024 }
-        ensures { Follows (read_whole (shown self.old) awaiting size ((shown self.old).value ++ data_value «data»)) self.new result }
+        requires { length (self.old.value ++ data_value «data») ≤ 1024 }
+        ensures { Follows (read_whole self.old awaiting size (self.old.value ++ data_value «data»)) self.new result }
     {
-        let total = self.value.len_with(data);
+        let total = self.value.len() + data.value().len();
         if total < 1 {
             self.find(awaiting, AbortCode::OutOfMemory)
         } else if differs(size, total) {
             self.find(awaiting, AbortCode::LengthMismatch)
         } else {
-            self.value.append(data.value());
+            self.value.try_extend_from_slice(data.value()).unwrap();
             self.succeed()
         }
     }
 
     /// One more segment is asked for.
     fn ask_segment(&mut self, toggle: Toggle, size: Option<u32>) -> Hearing
-        ensures { Follows (ask_segment (shown self.old) toggle size (shown self.old).value) self.new result }
+        ensures { Follows (ask_segment self.old toggle size self.old.value) self.new result }
     {
         let highest = self.highest.saturating_add(1);
         self.send(
@@ -97,18 +95,12 @@ impl Master {
 fn may_come(size: Option<u32>) -> bool
     ensures { result ≡ may_come size }
 {
-    match size {
-        None => true,
-        Some(size) => size >= 1 && size <= 1024,
-    }
+    size.is_none_or(|size| size >= 1 && size as usize <= CAPACITY)
 }
 
 /// Whether an announced size differs from a number of bytes.
 fn differs(size: Option<u32>, total: usize) -> bool
     ensures { result ≡ differs size total }
 {
-    match size {
-        None => false,
-        Some(size) => size as usize != total,
-    }
+    size.is_some_and(|size| size as usize != total)
 }

@@ -1,6 +1,6 @@
 //! What a master does in a tick, and at the end of its caller's patience.
-ghost use Rattle.master.specs.Calls.{tick, tick_in, waited, rested, give_up};
-ghost use Rattle.master.specs.Shown.{shown, Ticks, Parts};
+ghost use Rattle.master.specs.Calls.{tick, waited, rested, give_up};
+ghost use Rattle.master.specs.Shown.{Ticks, Parts};
 
 use super::Master;
 use super::ends::SILENCE;
@@ -13,26 +13,19 @@ const PATIENCE: u8 = 10;
 
 impl Master {
     /// Lets a tick pass.
+    #[tactic(auto, unfolding(crate::specs::Calls::tick))]
     pub fn tick(&mut self) -> Tick
-        ensures { Ticks (tick (shown self.old)) self.new result }
-    {
-        self.pass_tick()
-    }
-
-    /// Lets a tick pass, by the phase.
-    fn pass_tick(&mut self) -> Tick
-        ensures { Ticks (tick_in (shown self.old) self.old.phase) self.new result }
+        ensures { Ticks (tick self.old) self.new result }
     {
         match self.phase {
-            Phase::Idle => self.relax(),
             Phase::Open(awaiting) => self.wait(awaiting),
-            Phase::Over(_) => self.relax(),
+            Phase::Idle | Phase::Over(_) => self.relax(),
         }
     }
 
     /// One more tick has gone by without an answer.
     fn wait(&mut self, awaiting: Awaiting) -> Tick
-        ensures { Ticks (waited (shown self.old) awaiting) self.new result }
+        ensures { Ticks (waited self.old awaiting) self.new result }
     {
         if self.ticks < PATIENCE - 1 {
             self.ticks += 1;
@@ -50,12 +43,10 @@ impl Master {
 
     /// One more tick of rest has gone by.
     fn relax(&mut self) -> Tick
-        ensures { Ticks (rested (shown self.old)) self.new result }
+        ensures { Ticks (rested self.old) self.new result }
     {
         let quiet = self.rest == 1;
-        if self.rest > 0 {
-            self.rest -= 1;
-        }
+        self.rest = self.rest.saturating_sub(1);
         Tick {
             ended: false,
             sending: Sending {
@@ -67,12 +58,11 @@ impl Master {
 
     /// Ends an open transfer.
     pub fn give_up(&mut self) -> Sending
-        ensures { Parts (give_up (shown self.old)) self.new result }
+        ensures { Parts (give_up self.old) self.new result }
     {
         match self.phase {
-            Phase::Idle => SILENCE,
             Phase::Open(awaiting) => self.abandon(awaiting, AbortCode::GeneralError),
-            Phase::Over(_) => SILENCE,
+            Phase::Idle | Phase::Over(_) => SILENCE,
         }
     }
 }
