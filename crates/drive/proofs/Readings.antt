@@ -1,5 +1,5 @@
 -- Bytes and the numbers that they stand for, there and back.
-use Rattle.std.proofs.Common.{◌≡◌, ℕ, ◌+◌, ◌*◌, ◌/◌, ◌%◌, ◌<◌, ◌≤◌, [], ◌∷◌, refl, arith}
+use Rattle.std.proofs.Common.{◌≡◌, ℕ, ◌≤◌, refl, arith}
 use Rattle.drive.specs.declared.mode.ModeOfOperation.{ModeOfOperation}
 use Rattle.drive.specs.declared.mode.ModeOfOperation.TheVariants.{ProfilePosition, ProfileVelocity, Homing}
 use Rattle.drive.specs.Bytes.{signed_in, signed_bytes, unsigned_in, unsigned_bytes}

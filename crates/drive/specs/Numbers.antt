@@ -31,6 +31,6 @@ abbrev pub Made : {X N : Type 0} → (X → N) → (N → Bool) → N → Result
 Made number admits n r = result_map_both number (λ c. c) r ≡ ok_or (if_admitted admits n) InvalidValue
 
 -- it is read from as many bytes as it shows, where the number that they stand for is admitted; it then shows those bytes
-pub record Read {X N : Type 0} (number : X → N) (admits : N → Bool) (stands_for : List ℕ → N) (shows : N → List ℕ) (n : ℕ) (v : List ℕ) (r : Result X AbortCode) : Type 0 where
+pub record OfBytes {X N : Type 0} (number : X → N) (admits : N → Bool) (stands_for : List ℕ → N) (shows : N → List ℕ) (n : ℕ) (v : List ℕ) (r : Result X AbortCode) : Type 0 where
   pub answer : Made number (λ k. length v == n && admits k) (stands_for v) r
   pub shown : IfOk r (λ x. shows (number x) ≡ v)

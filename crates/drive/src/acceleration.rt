@@ -1,7 +1,7 @@
 //! How fast a drive gains speed (CiA 402: profile acceleration, object 6083).
 ghost use Rattle.std.specs.Prelude.{◌≡◌, ◌≤◌};
 ghost use Rattle.drive.specs.Bytes.{unsigned_in, unsigned_bytes};
-ghost use Rattle.drive.specs.Numbers.{admits_acceleration, Made, Read};
+ghost use Rattle.drive.specs.Numbers.{admits_acceleration, Made, OfBytes};
 
 use wire::AbortCode;
 
@@ -25,10 +25,9 @@ impl TryFrom<u32> for ProfileAcceleration {
     ghost try_from_gives = { Made (λ a. a.number) admits_acceleration };
 
     fn try_from(number: u32) -> Result<ProfileAcceleration, AbortCode> {
-        if 1 <= number && number <= 1_000_000 {
-            Ok(ProfileAcceleration { number })
-        } else {
-            Err(AbortCode::InvalidValue)
+        match number {
+            1..=1_000_000 => Ok(ProfileAcceleration { number }),
+            _ => Err(AbortCode::InvalidValue),
         }
     }
 }
@@ -37,7 +36,7 @@ impl TryFrom<u32> for ProfileAcceleration {
 impl<'a> TryFrom<&'a [u8]> for ProfileAcceleration {
     type Error = AbortCode;
 
-    ghost try_from_gives = { λ value. Read (λ a. a.number) admits_acceleration unsigned_in unsigned_bytes 4 value.now };
+    ghost try_from_gives = { λ value. OfBytes (λ a. a.number) admits_acceleration unsigned_in unsigned_bytes 4 value.now };
 
     fn try_from(value: &'a [u8]) -> Result<ProfileAcceleration, AbortCode> {
         let bytes = <[u8; 4]>::try_from(value).map_err(|_| AbortCode::InvalidValue)?;

@@ -1,7 +1,7 @@
 //! How a drive moves (CiA 402: modes of operation, object 6060).
 ghost use Rattle.std.specs.Prelude.{◌≡◌};
 ghost use Rattle.drive.specs.Bytes.{signed_in, signed_bytes};
-ghost use Rattle.drive.specs.Numbers.{mode_number, admits_mode, Made, Read};
+ghost use Rattle.drive.specs.Numbers.{mode_number, admits_mode, Made, OfBytes};
 
 use wire::AbortCode;
 
@@ -33,7 +33,7 @@ impl TryFrom<i8> for ModeOfOperation {
 impl<'a> TryFrom<&'a [u8]> for ModeOfOperation {
     type Error = AbortCode;
 
-    ghost try_from_gives = { λ value. Read mode_number admits_mode signed_in signed_bytes 1 value.now };
+    ghost try_from_gives = { λ value. OfBytes mode_number admits_mode signed_in signed_bytes 1 value.now };
 
     fn try_from(value: &'a [u8]) -> Result<ModeOfOperation, AbortCode> {
         let bytes = <[u8; 1]>::try_from(value).map_err(|_| AbortCode::InvalidValue)?;
