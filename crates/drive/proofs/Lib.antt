@@ -1,4 +1,3 @@
-pub mod Admission
 pub mod Readings
 pub mod Setting
 pub mod Taking

@@ -1,11 +1,12 @@
 //! How fast a drive gains speed (CiA 402: profile acceleration, object 6083).
-ghost use Rattle.std.specs.Prelude.{◌≡◌, ◌≤◌, length, IfSome};
-ghost use Rattle.std.specs.Option.{option_map};
+ghost use Rattle.std.specs.Prelude.{◌≡◌, ◌≤◌};
 ghost use Rattle.drive.specs.Bytes.{unsigned_in, unsigned_bytes};
-ghost use Rattle.drive.specs.Numbers.{admits_acceleration, if_admitted};
+ghost use Rattle.drive.specs.Numbers.{admits_acceleration, Made, OfBytes};
+
+use wire::AbortCode;
 
 /// A profile acceleration, 1 to 1,000,000.
-#[derive(Clone, Copy)]
+#[derive(Clone, Copy, PartialEq, Eq, Debug)]
 pub struct ProfileAcceleration {
     number: u32,
     ghost low: { 1 ≤ number },
@@ -15,33 +16,39 @@ pub struct ProfileAcceleration {
 impl ProfileAcceleration {
     /// The acceleration of a new drive.
     pub(crate) const STARTING: ProfileAcceleration = ProfileAcceleration { number: 1_000 };
+}
 
-    /// The acceleration with a number; none unless it is within 1 to 1,000,000.
-    pub fn new(number: u32) -> Option<ProfileAcceleration>
-        ensures { option_map (λ a. a.number) result ≡ if_admitted admits_acceleration number }
-    {
-        if 1 <= number && number <= 1_000_000 {
-            Some(ProfileAcceleration { number })
-        } else {
-            None
+/// The acceleration with a number; an invalid value unless it is within 1 to 1,000,000.
+impl TryFrom<u32> for ProfileAcceleration {
+    type Error = AbortCode;
+
+    ghost try_from_gives = { Made (λ a. a.number) admits_acceleration };
+
+    fn try_from(number: u32) -> Result<ProfileAcceleration, AbortCode> {
+        match number {
+            1..=1_000_000 => Ok(ProfileAcceleration { number }),
+            _ => Err(AbortCode::InvalidValue),
         }
     }
+}
 
-    /// The acceleration whose number four bytes stand for; none for other bytes.
-    pub(crate) fn of_bytes(value: &[u8]) -> Option<ProfileAcceleration>
-        ensures answer { length value.now ≡ 4 → option_map (λ a. a.number) result ≡ if_admitted admits_acceleration (unsigned_in value.now) }
-        ensures shown { IfSome result (λ a. unsigned_bytes a.number ≡ value.now) }
-    {
-        match value {
-            [a, b, c, d] => ProfileAcceleration::new(u32::from_le_bytes([*a, *b, *c, *d])),
-            _ => None,
-        }
+/// The acceleration whose number four bytes stand for; other bytes are an invalid value.
+impl<'a> TryFrom<&'a [u8]> for ProfileAcceleration {
+    type Error = AbortCode;
+
+    ghost try_from_gives = { λ value. OfBytes (λ a. a.number) admits_acceleration unsigned_in unsigned_bytes 4 value.now };
+
+    fn try_from(value: &'a [u8]) -> Result<ProfileAcceleration, AbortCode> {
+        let bytes = <[u8; 4]>::try_from(value).map_err(|_| AbortCode::InvalidValue)?;
+        ProfileAcceleration::try_from(u32::from_le_bytes(bytes))
     }
+}
 
-    /// The number, 1 to 1,000,000.
-    pub fn number(self) -> u32
-        ensures { result ≡ self.number }
-    {
-        self.number
+/// The acceleration's number, 1 to 1,000,000.
+impl From<ProfileAcceleration> for u32 {
+    ghost from_gives = { λ acceleration result. result ≡ acceleration.number };
+
+    fn from(acceleration: ProfileAcceleration) -> u32 {
+        acceleration.number
     }
 }

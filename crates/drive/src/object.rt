@@ -13,6 +13,9 @@ pub(crate) enum Object {
 }
 
 impl Object {
+    /// The objects, rising by multiplexor.
+    pub(crate) const ALL: [Object; 2] = [Object::ModeOfOperation, Object::ProfileAcceleration];
+
     /// The object at a multiplexor, or the code that says why there is none.
     pub(crate) fn at(multiplexor: Multiplexor) -> Result<Object, AbortCode>
         ensures { MatchResult result (λ o. multiplexor ≡ object_at o) (λ c. Absent multiplexor c) }

@@ -46,12 +46,12 @@ fn a_mode_is_1_3_or_6(rt: HostRuntime) {
     assert!(rt; drive.commit(MODE, &[0]) == Err(AbortCode::InvalidValue));
     assert!(rt; drive.commit(MODE, &[2]) == Err(AbortCode::InvalidValue));
     assert!(rt; drive.commit(MODE, &[0xff]) == Err(AbortCode::InvalidValue));
-    assert!(rt; drive.mode_of_operation.number() == 1);
+    assert!(rt; i8::from(drive.mode_of_operation) == 1);
     assert!(rt; drive.commit(MODE, &[3]) == Ok(()));
-    assert!(rt; drive.mode_of_operation.number() == 3);
+    assert!(rt; i8::from(drive.mode_of_operation) == 3);
     assert!(rt; drive.commit(MODE, &[6]) == Ok(()));
-    assert!(rt; drive.mode_of_operation.number() == 6);
-    assert!(rt; drive.profile_acceleration.number() == 1_000);
+    assert!(rt; i8::from(drive.mode_of_operation) == 6);
+    assert!(rt; u32::from(drive.profile_acceleration) == 1_000);
 }
 
 #[test]
@@ -59,12 +59,12 @@ fn an_acceleration_is_1_to_1000000(rt: HostRuntime) {
     let mut drive = Drive::new();
     assert!(rt; drive.commit(ACCELERATION, &[0, 0, 0, 0]) == Err(AbortCode::InvalidValue));
     assert!(rt; drive.commit(ACCELERATION, &[0x41, 0x42, 0x0f, 0]) == Err(AbortCode::InvalidValue));
-    assert!(rt; drive.profile_acceleration.number() == 1_000);
+    assert!(rt; u32::from(drive.profile_acceleration) == 1_000);
     assert!(rt; drive.commit(ACCELERATION, &[1, 0, 0, 0]) == Ok(()));
-    assert!(rt; drive.profile_acceleration.number() == 1);
+    assert!(rt; u32::from(drive.profile_acceleration) == 1);
     assert!(rt; drive.commit(ACCELERATION, &[0x40, 0x42, 0x0f, 0]) == Ok(()));
-    assert!(rt; drive.profile_acceleration.number() == 1_000_000);
-    assert!(rt; drive.mode_of_operation.number() == 1);
+    assert!(rt; u32::from(drive.profile_acceleration) == 1_000_000);
+    assert!(rt; i8::from(drive.mode_of_operation) == 1);
 }
 
 #[test]

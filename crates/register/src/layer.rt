@@ -3,19 +3,19 @@ ghost use Rattle.std.specs.Prelude.{◌≡◌};
 ghost use Rattle.register.specs.Layers.{layer_number, LayersTold};
 
 /// Where a transfer failed: found by the master itself, told by the protocol, or told by the node's dictionary.
-#[derive(Clone, Copy, PartialEq, Eq)]
+#[derive(Clone, Copy, PartialEq, Eq, Debug)]
 pub enum Layer {
     Master = 1,
     Protocol = 2,
     Dictionary = 3,
 }
 
-impl Layer {
-    /// The layer's number.
-    pub fn number(self) -> u8
-        ensures { result ≡ layer_number self }
-    {
-        self as u8
+/// The layer's number.
+impl From<Layer> for u8 {
+    ghost from_gives = { λ layer result. result ≡ layer_number layer };
+
+    fn from(layer: Layer) -> u8 {
+        layer as u8
     }
 }
 

@@ -7,7 +7,7 @@ fn a_verdict_is_the_dictionarys(rt: HostRuntime) {
     assert!(rt; layer_of(AbortCode::WriteOnly) == Layer::Dictionary);
     assert!(rt; layer_of(AbortCode::InvalidValue) == Layer::Dictionary);
     assert!(rt; layer_of(AbortCode::Other(0x0602_0000)) == Layer::Dictionary);
-    assert_eq!(rt; Layer::Dictionary.number(), 3);
+    assert_eq!(rt; u8::from(Layer::Dictionary), 3);
 }
 
 #[test]
@@ -16,5 +16,5 @@ fn all_else_is_the_protocols(rt: HostRuntime) {
     assert!(rt; layer_of(AbortCode::LengthMismatch) == Layer::Protocol);
     assert!(rt; layer_of(AbortCode::GeneralError) == Layer::Protocol);
     assert!(rt; layer_of(AbortCode::Other(0x0607_0011)) == Layer::Protocol);
-    assert_eq!(rt; Layer::Protocol.number(), 2);
+    assert_eq!(rt; u8::from(Layer::Protocol), 2);
 }

@@ -38,18 +38,12 @@ impl Keyed for Held {
 
 /// How often a code was seen, among some.
 fn times(rows: &[Seen], code: u32) -> Option<u16> {
-    match place(rows, code) {
-        Some(i) => Some(rows[i].times),
-        None => None,
-    }
+    place(rows, code).map(|i| rows[i].times)
 }
 
 /// The value at a multiplexor, among some.
 fn value(rows: &[Held], index: u16, subindex: u8) -> Option<u8> {
-    match place(rows, Multiplexor { index, subindex }) {
-        Some(i) => Some(rows[i].value),
-        None => None,
-    }
+    place(rows, Multiplexor { index, subindex }).map(|i| rows[i].value)
 }
 
 /// A code that was seen so many times.

@@ -15,10 +15,7 @@ impl Readable for Drive {
     ghost lawful = { drive_lawful };
 
     fn attributes(&self, multiplexor: Multiplexor) -> Result<Attributes, AbortCode> {
-        match Object::at(multiplexor) {
-            Ok(object) => Ok(object.attributes()),
-            Err(code) => Err(code),
-        }
+        Object::at(multiplexor).map(Object::attributes)
     }
 
     fn copy_value(
@@ -26,27 +23,21 @@ impl Readable for Drive {
         multiplexor: Multiplexor,
         buffer: &mut [u8],
     ) -> Result<usize, CopyRefusal> {
-        match Object::at(multiplexor) {
-            Ok(Object::ModeOfOperation) => {
-                copy(&self.mode_of_operation.number().to_le_bytes(), buffer)
+        match Object::at(multiplexor).map_err(CopyRefusal::Verdict)? {
+            Object::ModeOfOperation => {
+                copy(&i8::from(self.mode_of_operation).to_le_bytes(), buffer)
             }
-            Ok(Object::ProfileAcceleration) => {
-                copy(&self.profile_acceleration.number().to_le_bytes(), buffer)
+            Object::ProfileAcceleration => {
+                copy(&u32::from(self.profile_acceleration).to_le_bytes(), buffer)
             }
-            Err(code) => Err(CopyRefusal::Verdict(code)),
         }
     }
 
     fn next(&self, above: Multiplexor) -> Option<Multiplexor> {
-        let mode = Object::ModeOfOperation.multiplexor();
-        let acceleration = Object::ProfileAcceleration.multiplexor();
-        if above < mode {
-            Some(mode)
-        } else if above < acceleration {
-            Some(acceleration)
-        } else {
-            None
-        }
+        Object::ALL
+            .into_iter()
+            .map(Object::multiplexor)
+            .find(|multiplexor| above < *multiplexor)
     }
 }
 
@@ -58,6 +49,6 @@ fn copy(value: &[u8], buffer: &mut [u8]) -> Result<usize, CopyRefusal>
     if buffer.len() < value.len() {
         return Err(CopyRefusal::ShortBuffer);
     }
-    buffer[0..value.len()].copy_from_slice(value);
+    buffer[..value.len()].copy_from_slice(value);
     Ok(value.len())
 }
