@@ -10,8 +10,6 @@ mod reading;
 mod searching;
 mod writing;
 
-pub(crate) use writing::objection;
-
 /// How many entries a table has at most.
 const MOST_ENTRIES: usize = 64;
 

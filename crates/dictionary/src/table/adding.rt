@@ -2,7 +2,7 @@
 ghost use Rattle.std.specs.Prelude.{◌≡◌, ◌+◌, ◌≤◌, [], ◌∷◌, ◌++◌, length, None, nat_le, nat_lt};
 ghost use Rattle.dictionary.specs.Additions.{last_at, is_above, needed, add_refusal, added};
 ghost use Rattle.dictionary.specs.Commits.{decided};
-ghost use Rattle.dictionary.specs.Plain.{plain, lawful_lengths};
+ghost use Rattle.dictionary.specs.Plain.{plain};
 ghost use Rattle.dictionary.specs.Tables.{table_entries};
 
 use crate::attributes::Attributes;
@@ -35,37 +35,20 @@ impl Table {
         ensures answer { result ≡ decided (add_refusal (table_entries self.old) multiplexor attributes value.now) }
         ensures after { table_entries self.new ≡ added (table_entries self.old) multiplexor attributes value.now }
     {
-        match self.refusal(multiplexor, attributes, value) {
-            Some(refusal) => Err(refusal),
-            None => {
-                self.append(multiplexor, attributes, value);
-                Ok(())
-            }
-        }
-    }
-
-    /// Why an entry is not taken.
-    fn refusal(
-        &self,
-        multiplexor: Multiplexor,
-        attributes: Attributes,
-        value: &[u8],
-    ) -> Option<AddRefusal>
-        ensures { result ≡ add_refusal (table_entries self.now) multiplexor attributes value.now }
-    {
         if self.is_full() {
-            return Some(AddRefusal::Full);
+            return Err(AddRefusal::Full);
         }
         if !self.is_above_last(multiplexor) {
-            return Some(AddRefusal::NotAbove);
+            return Err(AddRefusal::NotAbove);
         }
-        if !are_lawful(attributes, value.len()) {
-            return Some(AddRefusal::Unlawful);
+        if !attributes.are_lawful(value.len()) {
+            return Err(AddRefusal::Unlawful);
         }
         if self.lacks_room(attributes.longest) {
-            return Some(AddRefusal::NoRoom);
+            return Err(AddRefusal::NoRoom);
         }
-        None
+        self.append(multiplexor, attributes, value);
+        Ok(())
     }
 
     /// Whether no further entry can be taken.
@@ -86,10 +69,7 @@ impl Table {
     fn is_above_last(&self, multiplexor: Multiplexor) -> bool
         ensures { result ≡ is_above (last_at (table_entries self.now)) multiplexor }
     {
-        match self.last() {
-            Some(last) => last < multiplexor,
-            None => true,
-        }
+        self.last().is_none_or(|last| last < multiplexor)
     }
 
     /// How many entries there are.
@@ -133,15 +113,4 @@ impl Table {
         self.count += 1;
         self.reserved += attributes.longest as usize;
     }
-}
-
-/// Whether lengths are in order within 1 to 1,024, and a value's length fits them.
-fn are_lawful(attributes: Attributes, len: usize) -> bool
-    ensures { result ≡ lawful_lengths attributes len }
-{
-    1 <= attributes.shortest
-        && attributes.shortest <= attributes.longest
-        && attributes.longest <= 1024
-        && attributes.shortest as usize <= len
-        && len <= attributes.longest as usize
 }

@@ -13,10 +13,8 @@ impl Table {
     pub(super) fn find(&self, multiplexor: Multiplexor) -> Result<usize, AbortCode>
         ensures { MatchResult result (λ i. Stands self.now multiplexor i) (λ c. Absent self.now multiplexor c) }
     {
-        match self.place(multiplexor) {
-            Some(place) => Ok(place),
-            None => Err(self.absence(multiplexor)),
-        }
+        self.place(multiplexor)
+            .ok_or_else(|| self.absence(multiplexor))
     }
 
     /// The place of the entry at a multiplexor.
