@@ -1,4 +1,7 @@
 //! Where a table keeps one entry.
+ghost use Rattle.std.specs.Prelude.{◌≡◌};
+ghost use Rattle.dictionary.specs.Layouts.{vacant};
+
 use crate::access::Access;
 use crate::attributes::Attributes;
 use wire::Multiplexor;
@@ -12,19 +15,23 @@ pub struct Row {
     pub length: usize,
 }
 
-impl Row {
-    /// A row that is not in use.
-    pub const VACANT: Row = Row {
-        multiplexor: Multiplexor {
-            index: 0,
-            subindex: 0,
-        },
-        attributes: Attributes {
-            access: Access::ReadOnly,
-            shortest: 0,
-            longest: 0,
-        },
-        start: 0,
-        length: 0,
-    };
+/// What stands in the places of a table that hold no entry.
+impl Default for Row {
+    ghost is_default = { λ r. r ≡ vacant };
+
+    fn default() -> Row {
+        Row {
+            multiplexor: Multiplexor {
+                index: 0,
+                subindex: 0,
+            },
+            attributes: Attributes {
+                access: Access::ReadOnly,
+                shortest: 0,
+                longest: 0,
+            },
+            start: 0,
+            length: 0,
+        }
+    }
 }

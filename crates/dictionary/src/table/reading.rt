@@ -35,13 +35,10 @@ impl Readable for Table {
     }
 
     fn next(&self, above: Multiplexor) -> Option<Multiplexor> {
-        for place in 0..self.count {
-            let multiplexor = self.rows[place].multiplexor;
-            if above < multiplexor {
-                return Some(multiplexor);
-            }
-        }
-        None
+        self.rows
+            .iter()
+            .map(|row| row.multiplexor)
+            .find(|multiplexor| above < *multiplexor)
     }
 }
 

@@ -21,12 +21,9 @@ impl Table {
     fn place(&self, multiplexor: Multiplexor) -> Option<usize>
         ensures { result ≡ place_at multiplexor (table_entries self.now) }
     {
-        for place in 0..self.count {
-            if self.rows[place].multiplexor == multiplexor {
-                return Some(place);
-            }
-        }
-        None
+        self.rows
+            .iter()
+            .position(|row| row.multiplexor == multiplexor)
     }
 
     /// The code that says why there is no entry at a multiplexor.
@@ -44,11 +41,6 @@ impl Table {
     fn has_index(&self, index: u16) -> bool
         ensures { result ≡ has_index index (table_entries self.now) }
     {
-        for place in 0..self.count {
-            if self.rows[place].multiplexor.index == index {
-                return true;
-            }
-        }
-        false
+        self.rows.iter().any(|row| row.multiplexor.index == index)
     }
 }

@@ -24,7 +24,7 @@ impl Writable for Table {
 impl Table {
     /// The place of an entry that may be set to a value, or the verdict on the write.
     fn writable(&self, multiplexor: Multiplexor, value: &[u8]) -> Result<usize, AbortCode>
-        ensures { MatchResult result (λ i. Stands self.now multiplexor i × (write_verdict (table_entries self.now) multiplexor value.now ≡ None) × (fits (row_at self.now.rows i).attributes (length value.now) ≡ true)) (λ c. write_verdict (table_entries self.now) multiplexor value.now ≡ Some c) }
+        ensures { MatchResult result (λ i. Stands self.now multiplexor i × (write_verdict (table_entries self.now) multiplexor value.now ≡ None) × (fits (row_at self.now.rows.items i).attributes (length value.now) ≡ true)) (λ c. write_verdict (table_entries self.now) multiplexor value.now ≡ Some c) }
     {
         let place = self.find(multiplexor)?;
         self.rows[place].attributes.check(value.len())?;
@@ -33,8 +33,8 @@ impl Table {
 
     /// Sets the value of the entry at a place.
     fn store(&mut self, place: usize, value: &[u8])
-        requires within { place < self.old.count }
-        requires fitting { fits (row_at self.old.rows place).attributes (length value.now) ≡ true }
+        requires within { place < length self.old.rows.items }
+        requires fitting { fits (row_at self.old.rows.items place).attributes (length value.now) ≡ true }
         ensures { table_entries self.new ≡ put_at place value.now (table_entries self.old) }
     {
         let start = self.rows[place].start;
