@@ -6,7 +6,7 @@ use Rattle.search.specs.Places.{Rising, Border, Parts}
 
 module _ {K R : Type 0} (before : K → K → Bool) (key : R → K) (transitive : Transitive before) where
   -- a row stands before all that follow it
-  first_before : (r : R) (rs : List R) → Rising before key (r ∷ rs) → (i : ℕ) (d : R) → i < length rs → before (key r) (key (get_or rs i d)) ≡ true
+  pub first_before : (r : R) (rs : List R) → Rising before key (r ∷ rs) → (i : ℕ) (d : R) → i < length rs → before (key r) (key (get_or rs i d)) ≡ true
   first_before r [] up i d h = absurd (not-suc-le-zero h)
   first_before r (q ∷ qs) up zero d h = up.0
   first_before r (q ∷ qs) up (suc i) d h =

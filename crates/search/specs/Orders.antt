@@ -1,5 +1,11 @@
 -- Orders of keys, as tests: whether one key stands before another.
 use Rattle.std.specs.Prelude.{◌≡◌, Bool, true, false, not, ◌&&◌}
+use Rattle.std.specs.declared.cmp.Ordering.{Ordering}
+use Rattle.std.specs.Ordering.{is_lt}
+
+-- a key stands before another where it compares as less
+abbrev pub earlier : {K : Type 0} → (K → K → Ordering) → K → K → Bool
+earlier cmp a b = is_lt (cmp a b)
 
 -- no key stands before itself
 abbrev pub Irreflexive : {K : Type 0} → (K → K → Bool) → Type 0

@@ -13,6 +13,11 @@ module _ {K R : Type 0} (key : R → K) where
   Lacks k rs = (i : ℕ) → Stands k rs i → ⊥
 
 module _ {K R : Type 0} (before : K → K → Bool) (key : R → K) where
+  -- the row at a place has a key that stands neither before nor after another
+  pub record Matches (k : K) (rs : List R) (i : ℕ) : Type 0 where
+    pub within : i < length rs
+    pub level : (d : R) → same before (key (slice_index_or rs i d)) k ≡ true
+
   -- a row stands before the first of some rows
   abbrev pub Leads : R → List R → Type 0
   Leads r [] = Unit {0}

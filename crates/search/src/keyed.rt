@@ -1,11 +1,9 @@
 //! What is looked through.
 ghost use Rattle.std.specs.Prelude.{◌≡◌};
 
-use crate::key::Key;
-
 /// A row of a table, which has a key.
 pub trait Keyed {
-    type Key: Key;
+    type Key: Ord + Copy;
 
     ghost label: { Self → Self.Key };
 

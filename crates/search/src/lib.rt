@@ -2,11 +2,9 @@
 #![tactic(auto)]
 
 mod binary;
-mod key;
 mod keyed;
-mod multiplexor;
-mod number;
+mod orders;
 
 pub use binary::{count_before, place};
-pub use key::Key;
 pub use keyed::Keyed;
+pub use orders::{multiplexors_ordered, numbers_ordered, ordered};
