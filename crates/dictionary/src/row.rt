@@ -4,6 +4,7 @@ ghost use Rattle.dictionary.specs.Layouts.{vacant};
 
 use crate::access::Access;
 use crate::attributes::Attributes;
+use search::Keyed;
 use wire::Multiplexor;
 
 /// An entry's multiplexor and attributes, and where its value lies in the table's bytes.
@@ -33,5 +34,16 @@ impl Default for Row {
             start: 0,
             length: 0,
         }
+    }
+}
+
+/// Rows are found by their multiplexors.
+impl Keyed for Row {
+    type Key = Multiplexor;
+
+    ghost label = { λ r. r.multiplexor };
+
+    fn key(&self) -> Multiplexor {
+        self.multiplexor
     }
 }

@@ -35,10 +35,8 @@ impl Readable for Table {
     }
 
     fn next(&self, above: Multiplexor) -> Option<Multiplexor> {
-        self.rows
-            .iter()
-            .map(|row| row.multiplexor)
-            .find(|multiplexor| above < *multiplexor)
+        let first = self.rows.partition_point(|row| row.multiplexor <= above);
+        self.rows.get(first).map(|row| row.multiplexor)
     }
 }
 
