@@ -2,17 +2,17 @@
 use native.Mathlib.Numerals.{unary_clauses}
 use Rattle.std.specs.List.{list_any, AllWithin}
 use Rattle.std.specs.Option.{option_map}
-use Rattle.std.proofs.Common.{◌≡◌, ℕ, zero, suc, ◌+◌, ◌-◌, ◌<◌, Bool, true, false, not, cond, eqb, ltb, List, [], ◌∷◌, slice_get, length, map, Some, None, Option, refl, ap, ◌∙◌, arith}
+use Rattle.std.proofs.Common.{◌≡◌, ℕ, zero, suc, ◌+◌, ◌-◌, true, false, not, eqb, List, [], ◌∷◌, slice_get, length, Option, refl, ◌∙◌, arith}
 use Rattle.std.specs.List.Sorted.{IsPartitionedBy}
 use Rattle.std.proofs.lemmas.Bool.{cond-true, cond-false, not-false}
 use Rattle.std.proofs.lemmas.Bool.Decides.{nat_tests}
 use Rattle.search.specs.Places as search
 use Rattle.wire.specs.declared.multiplexor.Multiplexor.{Multiplexor}
-use Rattle.wire.specs.Multiplexors.{same, before}
+use Rattle.wire.specs.Multiplexors.{before}
 use Rattle.dictionary.specs.declared.row.Row.{Row}
 use Rattle.dictionary.specs.declared.table.Table.{Table}
 use Rattle.dictionary.specs.Additions.{last_at}
-use Rattle.dictionary.specs.Entries.{Entry, has_index}
+use Rattle.dictionary.specs.Entries.{has_index}
 use Rattle.dictionary.specs.Layouts.{entries, leads, laid}
 use Rattle.dictionary.specs.Places.{place_from, place_at}
 use Rattle.dictionary.specs.Questions.{next_above}
@@ -51,7 +51,6 @@ module _ (bytes : List ℕ) where
   last_row [] = refl
   last_row (r ∷ []) = refl
   last_row (r ∷ q ∷ qs) = let ih = last_row (q ∷ qs) in simp unary_clauses (simp unary_clauses at ih)
-
 
 leads_rising : (r : Row) (rs : List Row) → leads r rs ≡ true → search.Leads before at r rs
 leads_rising r [] h = tt

@@ -38,6 +38,7 @@ pub enum CopyRefusal {
 
 impl CopyRefusal {
     /// The refusal's number, 12; a verdict is told by its code and has none.
+    // No conversion: From gives a number for each value, and a verdict has none.
     pub fn number(self) -> Option<u8>
         ensures { result ≡ copy_number self }
     {

@@ -1,6 +1,6 @@
 use Rattle.std.proofs.Common.{sym, ap, ◌∙◌}
 use Rattle.dictionary.specs.Commits.{decided}
-use Rattle.dictionary.proofs.Starts.{start-there, start-missing}
+use Rattle.dictionary.proofs.Starts.{start-there}
 use Rattle.dictionary.proofs.starting.check_start.Goals as goal
 
 pub returns : goal.returns

@@ -1,6 +1,6 @@
-use Rattle.std.proofs.Common.{◌≡◌, ℕ, ◌-◌, List, [], ◌∷◌, ◌++◌, length, replicate, true, ap, ◌∙◌, arith}
+use Rattle.std.proofs.Common.{ℕ, ◌-◌, [], ◌∷◌, ◌++◌, length, replicate, ap, ◌∙◌, arith}
 use Rattle.std.proofs.lemmas.List.{length-replicate}
-use Rattle.dictionary.proofs.Appending.{free, fresh, table_extended, table_appended}
+use Rattle.dictionary.proofs.Appending.{free, table_extended, table_appended}
 use Rattle.dictionary.proofs.Storing.{entries_along, laid_along}
 use Rattle.dictionary.proofs.table.Table.append.Goals as goal
 

@@ -1,4 +1,4 @@
-use Rattle.std.proofs.Common.{◌≡◌, ℕ, List, length, set, ap, ◌∙◌, arith}
+use Rattle.std.proofs.Common.{length, set, ap, ◌∙◌, arith}
 use Rattle.dictionary.specs.Layouts.{row_at, laid}
 use Rattle.dictionary.proofs.Lengths.{fits-longest}
 use Rattle.dictionary.proofs.Storing.{resized, length-overwritten, table_resized, table_stored, entries_along, laid_along, rows_written, bytes_written}
