@@ -1,6 +1,6 @@
 -- A row laid behind all others: the rows stay laid, and the dictionary has one entry more at its end.
-use Rattle.std.proofs.Common.{◌≡◌, ℕ, ◌+◌, ◌-◌, ◌<◌, ◌≤◌, true, not, ltb, leb, List, [], ◌∷◌, ◌++◌, length, take, set, Some, None, refl, ap, ◌∙◌, arith}
-use Rattle.std.proofs.lemmas.List.{take_more, take_more_set}
+use Rattle.std.proofs.Common.{◌≡◌, ℕ, ◌+◌, ◌<◌, ◌≤◌, true, not, ltb, leb, List, [], ◌∷◌, ◌++◌, length, take, drop, Some, None, sym, refl, ap, ◌∙◌, arith, length-append, take_all}
+use Rattle.std.proofs.lemmas.List.{drop_at, take_at}
 use Rattle.std.proofs.lemmas.Bool.{and_parts, and_from, eq-eqb, eqb-true, leb-false, ltb-false, not-false}
 use Rattle.wire.specs.declared.multiplexor.Multiplexor.{Multiplexor}
 use Rattle.dictionary.specs.declared.attributes.Attributes.{Attributes}
@@ -9,12 +9,11 @@ use Rattle.dictionary.specs.declared.row.Row.{Row}
 use Rattle.dictionary.specs.declared.table.Table.{Table}
 use Rattle.dictionary.specs.Additions.{last_at, is_above, needed, add_refusal}
 use Rattle.dictionary.specs.Entries.{Entry}
-use Rattle.dictionary.specs.Layouts.{vacant, row_at, entry, entries, leads, laid, laid_at, overwritten}
+use Rattle.dictionary.specs.Layouts.{entry, entries, leads, laid, laid_at}
 use Rattle.dictionary.specs.Plain.{plain, lawful_lengths}
-use Rattle.dictionary.specs.Tables.{used, table_entries}
+use Rattle.dictionary.specs.Tables.{table_entries}
 use Rattle.dictionary.proofs.Laying.{entries_below}
-use Rattle.dictionary.proofs.Lengths.{fits-longest, lawful_fits}
-use Rattle.dictionary.proofs.Overwriting.{take-overwritten, read-overwritten}
+use Rattle.dictionary.proofs.Lengths.{fits-longest, lawful_fits, lawful-bounded}
 use Rattle.dictionary.proofs.Presence.{passed}
 use Rattle.dictionary.proofs.TableFacts.{table_length, table_needed}
 
@@ -28,17 +27,6 @@ module _ (bytes : List ℕ) where
   entries_push : (rows : List Row) (r : Row) → entries bytes (rows ++ r ∷ []) ≡ entries bytes rows ++ entry bytes r ∷ []
   entries_push [] r = refl
   entries_push (q ∷ qs) r = ap (λ (d : List Entry). entry bytes q ∷ d) (entries_push qs r)
-
-  -- the last entry is that of the last row in use
-  pub last_row : (rows : List Row) (count : ℕ) → 0 < count → count ≤ length rows → last_at (entries bytes (take count rows)) ≡ Some (row_at rows (count - 1)).multiplexor
-  last_row rows count some room =
-      let n = count - 1 in
-      let more : count ≡ n + 1 = omega arith in
-      let r = row_at rows n in
-      ap (λ (k : ℕ). last_at (entries bytes (take k rows))) more
-      ∙ ap (λ (rs : List Row). last_at (entries bytes rs)) (take_more rows n vacant (omega arith))
-      ∙ ap last_at (entries_push (take n rows) r)
-      ∙ last_push (entries bytes (take n rows)) (entry bytes r)
 
   -- the rows stay laid
   laid_push : (start : ℕ) (rows : List Row) (stop : ℕ) (r : Row) → laid start rows stop ≡ true → laid_at stop r ≡ true → is_above (last_at (entries bytes rows)) r.multiplexor ≡ true → laid start (rows ++ r ∷ []) (stop + r.attributes.longest) ≡ true
@@ -55,16 +43,17 @@ module _ (bytes : List ℕ) where
 
 -- a table that takes an entry
 pub record Free (t : Table) (m : Multiplexor) (a : Attributes) (v : List ℕ) : Type 0 where
-  pub row : t.count < 64
+  pub row : length t.rows.items < 64
   pub up : is_above (last_at (table_entries t)) m ≡ true
   pub lawful : lawful_lengths a (length v) ≡ true
-  pub room : t.reserved + a.longest ≤ 4096
+  pub room : length t.bytes.items + a.longest ≤ 4096
   pub short : length v ≤ a.longest
+  pub bounded : a.longest ≤ 1024
 
 module _ (t : Table) (m : Multiplexor) (a : Attributes) (v : List ℕ) where
   -- the row of a new entry
   abbrev pub fresh : Row
-  fresh = record { multiplexor = m; attributes = a; start = t.reserved; length = length v }
+  fresh = record { multiplexor = m; attributes = a; start = length t.bytes.items; length = length v }
 
   pub free : add_refusal (table_entries t) m a v ≡ None → Free t m a v
   free h =
@@ -78,18 +67,23 @@ module _ (t : Table) (m : Multiplexor) (a : Attributes) (v : List ℕ) where
       let few = leb-false 64 (length d) p.0 in
       let room = ltb-false 4096 (needed d + a.longest) s.0 in
       let lawful = not-false _ r.0 in
-      record { row = omega arith; up = not-false _ q.0; lawful = lawful; room = omega arith; short = fits-longest a (length v) (lawful_fits a (length v) lawful) }
+      record { row = omega arith; up = not-false _ q.0; lawful = lawful; room = omega arith; short = fits-longest a (length v) (lawful_fits a (length v) lawful); bounded = lawful-bounded a (length v) lawful }
 
-  pub table_extended : Free t m a v → laid 0 (take (t.count + 1) (set t.rows t.count fresh)) (t.reserved + a.longest) ≡ true
-  table_extended f =
-      ap (λ (rs : List Row). laid 0 rs (t.reserved + a.longest)) (take_more_set t.rows t.count fresh (omega arith))
-      ∙ laid_push t.bytes 0 (used t) t.reserved fresh t.layout (and_from _ _ (eq-eqb _ _ refl) f.lawful) f.up
+  module _ (f : Free t m a v) (spare : List ℕ) where
+    -- the bytes with the value and what is spare behind all others
+    abbrev pub extended : List ℕ
+    extended = t.bytes.items ++ (v ++ spare)
 
-  pub table_appended : Free t m a v → entries (overwritten t.reserved v t.bytes) (take (t.count + 1) (set t.rows t.count fresh)) ≡ table_entries t ++ plain m a v ∷ []
-  table_appended f =
-      let bytes = overwritten t.reserved v t.bytes in
-      let here = read-overwritten t.reserved v t.bytes (omega arith) in
-      let below = entries_below t.bytes bytes 0 (used t) t.reserved t.layout (take-overwritten t.reserved v t.bytes (omega arith) _ (omega arith)) in
-      ap (entries bytes) (take_more_set t.rows t.count fresh (omega arith))
-      ∙ entries_push bytes (used t) fresh
-      ∙ cc (here, below)
+    pub table_extended : length v + length spare ≡ a.longest → laid 0 (t.rows.items ++ fresh ∷ []) (length extended) ≡ true
+    table_extended all =
+        let n : length extended ≡ length t.bytes.items + a.longest = simp length-append (omega arith) in
+        ap (laid 0 (t.rows.items ++ fresh ∷ [])) n
+        ∙ laid_push t.bytes.items 0 t.rows.items (length t.bytes.items) fresh t.layout (and_from _ _ (eq-eqb _ _ refl) f.lawful) f.up
+
+    pub table_appended : entries extended (t.rows.items ++ fresh ∷ []) ≡ table_entries t ++ plain m a v ∷ []
+    table_appended =
+        let n = length t.bytes.items in
+        let here : take (length v) (drop n extended) ≡ v = ap (take (length v)) (drop_at t.bytes.items _ n refl) ∙ take_at v spare (length v) refl in
+        let same : take n extended ≡ take n t.bytes.items = take_at t.bytes.items (v ++ spare) n refl ∙ sym (take_all n t.bytes.items (omega arith)) in
+        let below = entries_below t.bytes.items extended 0 t.rows.items n t.layout same in
+        entries_push extended t.rows.items fresh ∙ cc (here, below)

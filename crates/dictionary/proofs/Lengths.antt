@@ -12,6 +12,9 @@ module _ (a : Attributes) (n : ℕ) where
   pub lawful_fits : lawful_lengths a n ≡ true → fits a n ≡ true
   lawful_fits h = (and_parts (leb a.longest 1024) _ (and_parts (leb a.shortest a.longest) _ (and_parts (leb 1 a.shortest) _ h).1).1).1
 
+  pub lawful-bounded : lawful_lengths a n ≡ true → a.longest ≤ 1024
+  lawful-bounded h = leb-true _ _ (and_parts (leb a.longest 1024) _ (and_parts (leb a.shortest a.longest) _ (and_parts (leb 1 a.shortest) _ h).1).1).0
+
   -- lengths that are lawful for one number of bytes are so for any that fits
   pub lawful_refit : (k : ℕ) → lawful_lengths a k ≡ true → fits a n ≡ true → lawful_lengths a n ≡ true
   lawful_refit k h fit = grind (arith, h, fit)

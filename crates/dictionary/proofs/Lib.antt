@@ -1,11 +1,11 @@
 pub mod Appending
 pub mod Deciding
+pub mod Finding
 pub mod Laying
 pub mod Lengths
 pub mod Order
 pub mod Overwriting
 pub mod Presence
-pub mod Rows
 pub mod Setting
 pub mod Starts
 pub mod Storing

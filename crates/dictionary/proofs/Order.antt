@@ -15,9 +15,6 @@ same_equal a b h =
 pub same_itself : (a : Multiplexor) → same a a ≡ true
 same_itself a = grind (arith, nat_tests)
 
-pub before_itself : (a : Multiplexor) → before a a ≡ false
-before_itself a = grind (arith, nat_tests)
-
 pub before-before : (a b c : Multiplexor) → before a b ≡ true → before b c ≡ true → before a c ≡ true
 before-before a b c h k = grind (arith, nat_tests)
 

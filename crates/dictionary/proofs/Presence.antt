@@ -1,5 +1,5 @@
 -- What it says of a dictionary's answers that an entry is there, and at which place.
-use Rattle.std.proofs.Common.{◌≡◌, ℕ, zero, suc, ◌+◌, ◌<◌, ◌≤◌, Bool, true, false, cond, List, [], ◌∷◌, ◌++◌, length, get_or, Some, None, Ok, Option, refl, ap, arith}
+use Rattle.std.proofs.Common.{◌≡◌, ℕ, zero, suc, ◌+◌, ◌<◌, ◌≤◌, Bool, true, false, cond, List, [], ◌∷◌, ◌++◌, length, get_or, Some, None, Ok, Err, Option, refl, ap, arith}
 use Rattle.std.proofs.lemmas.Bool.Decides.{nat_tests}
 use Rattle.wire.specs.declared.multiplexor.Multiplexor.{Multiplexor}
 use Rattle.wire.specs.declared.abort_code.AbortCode.{AbortCode}
@@ -16,6 +16,15 @@ use Rattle.dictionary.specs.Verdicts.{first_of, presence, read_access, write_acc
 pub passed : {C : Type 0} (b : Bool) (x : C) (rest : Option C) → cond b (Some x) rest ≡ None → (b ≡ false) × (rest ≡ None)
 passed true x rest h = let z : ◌≡◌ {A = ℕ} 0 1 = cc in absurd (omega arith)
 passed false x rest h = (refl, h)
+
+-- what is decided well has nothing against it, and else what was said
+pub decided-ok : {C : Type 0} (o : Option C) → Ok tt ≡ decided o → o ≡ None
+decided-ok None e = refl
+decided-ok (Some c) e = grind arith
+
+pub decided-err : {C : Type 0} (o : Option C) (c : C) → Err c ≡ decided o → o ≡ Some c
+decided-err None c e = grind arith
+decided-err (Some d) c e = grind arith
 
 module _ (m : Multiplexor) where
   -- the entry at a multiplexor has its index
@@ -60,8 +69,5 @@ module _ (m : Multiplexor) where
   put_from v (f ∷ fs) n (suc i) k e h = let ih = put_from v fs (n + 1) i k (omega arith) in grind (arith, ih)
 
   -- what nothing speaks against is set
-  pub decided_well : (d : List Entry) (v : List ℕ) → write_verdict d m v ≡ None → decided (write_verdict d m v) ≡ Ok tt
-  decided_well d v h = ap decided h
-
   pub committed_well : (d : List Entry) (v : List ℕ) → write_verdict d m v ≡ None → committed d m v ≡ put m v d
   committed_well d v h = ap (λ (w : Option AbortCode). set_unless w m v d) h

@@ -1,6 +1,7 @@
 -- A value stored in a row: the rows stay laid, and the dictionary has the value at the row's place and nothing else changed.
-use Rattle.std.proofs.Common.{◌≡◌, ℕ, zero, suc, ◌+◌, ◌<◌, ◌≤◌, true, eqb, List, [], ◌∷◌, length, take, set, sym, refl, ap, ◌∙◌, arith}
-use lib.Seq.{take-set-lt}
+use Rattle.std.proofs.Common.{◌≡◌, ℕ, zero, suc, ◌+◌, ◌<◌, ◌≤◌, true, eqb, List, [], ◌∷◌, length, set, refl, ap, ◌∙◌, arith, length-set, length-append, length-take, length-drop}
+use Rattle.arrayvec.specs.ArrayVec.{ArrayVec, with_items}
+use Rattle.arrayvec.proofs.ArrayVecLemmas.{items-with_items}
 use Rattle.std.proofs.lemmas.Bool.{and_parts, and_from}
 use Rattle.dictionary.specs.declared.row.Row.{Row}
 use Rattle.dictionary.specs.declared.table.Table.{Table}
@@ -8,11 +9,10 @@ use Rattle.dictionary.specs.Layouts.{row_at, entries, leads, laid, laid_at, over
 use Rattle.dictionary.specs.Places.{put_at}
 use Rattle.dictionary.specs.Plain.{fits, lawful_lengths}
 use Rattle.dictionary.specs.TableLaws.{first_laid, laid_forward}
-use Rattle.dictionary.specs.Tables.{used, table_entries}
+use Rattle.dictionary.specs.Tables.{table_entries}
 use Rattle.dictionary.proofs.Laying.{laid_slot, held_below, entries-above}
 use Rattle.dictionary.proofs.Lengths.{lawful_refit}
 use Rattle.dictionary.proofs.Overwriting.{take-overwritten, read-overwritten, drop-overwritten}
-use Rattle.dictionary.proofs.TableFacts.{length-used, row_used}
 
 -- a row with another length in use
 abbrev pub resized : ℕ → Row → Row
@@ -63,27 +63,36 @@ module _ (bytes : List ℕ) (v : List ℕ) where
       cc (first, ih)
 
 -- the same of a table
-module _ (t : Table) (i : ℕ) (within : i < t.count) where
-  -- the rows in use, once the one at the place has another length
+module _ (t : Table) (i : ℕ) (within : i < length t.rows.items) where
+  -- the rows, once the one at the place has another length
   abbrev pub rows_resized : ℕ → List Row
-  rows_resized n = take t.count (set t.rows i (resized n (row_at t.rows i)))
+  rows_resized n = set t.rows.items i (resized n (row_at t.rows.items i))
 
-  used-resized : (n : ℕ) → set (used t) i (resized n (row_at (used t) i)) ≡ rows_resized n
-  used-resized n =
-      ap (λ (r : Row). set (used t) i (resized n r)) (row_used t i within)
-      ∙ sym (take-set-lt t.count t.rows i (resized n (row_at t.rows i)) within)
+  pub table_resized : (n : ℕ) → fits (row_at t.rows.items i).attributes n ≡ true → laid 0 (rows_resized n) (length t.bytes.items) ≡ true
+  table_resized n fit = laid-resized n 0 t.rows.items (length t.bytes.items) i t.layout within fit
 
-  pub table_resized : (n : ℕ) → fits (row_at t.rows i).attributes n ≡ true → laid 0 (rows_resized n) t.reserved ≡ true
-  table_resized n fit =
-      let l = length-used t in
-      let fit' = ap (λ (r : Row). fits r.attributes n) (row_used t i within) ∙ fit in
-      ap (λ (rs : List Row). laid 0 rs t.reserved) (sym (used-resized n)) ∙ laid-resized n 0 (used t) t.reserved i t.layout (omega arith) fit'
+  pub table_stored : (v : List ℕ) → length v ≤ (row_at t.rows.items i).attributes.longest → entries (overwritten (row_at t.rows.items i).start v t.bytes.items) (rows_resized (length v)) ≡ put_at i v (table_entries t)
+  table_stored v fit = entries_stored t.bytes.items v 0 t.rows.items (length t.bytes.items) i t.layout within fit (omega arith)
 
-  pub table_stored : (v : List ℕ) → length v ≤ (row_at t.rows i).attributes.longest → entries (overwritten (row_at t.rows i).start v t.bytes) (rows_resized (length v)) ≡ put_at i v (table_entries t)
-  table_stored v fit =
-      let l = length-used t in
-      let same = row_used t i within in
-      let longest = ap (λ (r : Row). r.attributes.longest) same in
-      ap (λ (r : Row). entries (overwritten r.start v t.bytes) (rows_resized (length v))) (sym same)
-      ∙ ap (entries (overwritten (row_at (used t) i).start v t.bytes)) (sym (used-resized (length v)))
-      ∙ entries_stored t.bytes v 0 (used t) t.reserved i t.layout (omega arith) (omega arith) (omega arith)
+-- an overwrite within some bytes keeps their number
+pub length-overwritten : (at : ℕ) (v bytes : List ℕ) → at + length v ≤ length bytes → length (overwritten at v bytes) ≡ length bytes
+length-overwritten at v bytes h = simp (length-append, length-take, length-drop) (omega arith)
+
+-- what the table's vectors hold once the row and the bytes are written through slices
+pub entries_along : {b b' : List ℕ} {rs rs' : List Row} → b ≡ b' → rs ≡ rs' → entries b rs ≡ entries b' rs'
+entries_along {b' = b'} {rs = rs} p q = ap (λ (b : List ℕ). entries b rs) p ∙ ap (entries b') q
+
+pub laid_along : {b b' : List ℕ} {rs rs' : List Row} → b ≡ b' → rs ≡ rs' → laid 0 rs' (length b') ≡ true → laid 0 rs (length b) ≡ true
+laid_along {b' = b'} {rs = rs} p q h = ap (λ (b : List ℕ). laid 0 rs (length b)) p ∙ ap (λ (l : List Row). laid 0 l (length b')) q ∙ h
+
+pub rows_written : (r : ArrayVec Row) (rs : List Row) (i n : ℕ) → rs ≡ r.items → (with_items r (set rs i (resized n (row_at rs i)))).items ≡ set r.items i (resized n (row_at r.items i))
+rows_written r rs i n e =
+    ap (λ (l : List Row). (with_items r (set l i (resized n (row_at l i)))).items) e
+    ∙ items-with_items r _ (length-set r.items i (resized n (row_at r.items i)))
+
+pub bytes_written : (b : ArrayVec ℕ) (now new v : List ℕ) (rs rows : List Row) (i : ℕ) → now ≡ b.items → rs ≡ rows → length new ≡ length now → new ≡ overwritten (row_at rs i).start v now → (with_items b new).items ≡ overwritten (row_at rows i).start v b.items
+bytes_written b now new v rs rows i p q n e =
+    items-with_items b new (n ∙ ap length p)
+    ∙ e
+    ∙ ap (λ (l : List Row). overwritten (row_at l i).start v now) q
+    ∙ ap (overwritten (row_at rows i).start v) p

@@ -6,7 +6,7 @@ use Rattle.dictionary.specs.declared.row.Row.{Row}
 use Rattle.dictionary.specs.Entries.{Entry}
 use Rattle.dictionary.specs.Plain.{plain, lawful_lengths}
 
--- a row that is not in use
+-- what stands where there is no row
 abbrev pub vacant : Row
 vacant = record { multiplexor = record { index = 0; subindex = 0 }; attributes = record { access = ReadOnly; shortest = 0; longest = 0 }; start = 0; length = 0 }
 

@@ -1,9 +1,8 @@
--- What a table means: the entries of the rows that are in use. And what it tells of an entry that is looked for.
-use Rattle.std.specs.Prelude.{◌≡◌, ℕ, ◌+◌, ◌<◌, ◌≤◌, List, take, Some, None}
+-- What a table means: the entries of its rows. And what it tells of an entry that is looked for.
+use Rattle.std.specs.Prelude.{◌≡◌, ℕ, ◌+◌, ◌<◌, ◌≤◌, List, length, Some, None}
 use Rattle.std.proofs.Common.{arith}
 use Rattle.wire.specs.declared.multiplexor.Multiplexor.{Multiplexor}
 use Rattle.wire.specs.declared.abort_code.AbortCode.{AbortCode}
-use Rattle.dictionary.specs.declared.row.Row.{Row}
 use Rattle.dictionary.specs.declared.table.Table.{Table}
 use Rattle.dictionary.specs.Entries.{Entry, Lawful, entry_at}
 use Rattle.dictionary.specs.Layouts.{row_at, entry, entries}
@@ -11,22 +10,18 @@ use Rattle.dictionary.specs.Places.{place_at}
 use Rattle.dictionary.specs.Questions.{absence}
 use Rattle.dictionary.specs.TableLaws.{entries_lawful}
 
--- the rows in use
-abbrev pub used : Table → List Row
-used t = take t.count t.rows
-
 abbrev pub table_entries : Table → List Entry
-table_entries t = entries t.bytes (used t)
+table_entries t = entries t.bytes.items t.rows.items
 
 pub table_lawful : (t : Table) → Lawful (table_entries t)
-table_lawful t = entries_lawful t.bytes 0 (used t) t.reserved (omega arith) t.layout
+table_lawful t = entries_lawful t.bytes.items 0 t.rows.items (length t.bytes.items) (omega arith) t.layout
 
 -- the entry at a multiplexor stands at a place, and is that of the row there
 pub record Stands (t : Table) (m : Multiplexor) (i : ℕ) : Type 0 where
-  pub within : i < t.count
+  pub within : i < length t.rows.items
   pub place : place_at m (table_entries t) ≡ Some i
-  pub there : entry_at m (table_entries t) ≡ Some (entry t.bytes (row_at t.rows i))
-  pub room : (row_at t.rows i).start + (row_at t.rows i).length ≤ 4096
+  pub there : entry_at m (table_entries t) ≡ Some (entry t.bytes.items (row_at t.rows.items i))
+  pub room : (row_at t.rows.items i).start + (row_at t.rows.items i).length ≤ length t.bytes.items
 
 -- no entry stands at a multiplexor, and a code says why
 pub record Absent (t : Table) (m : Multiplexor) (c : AbortCode) : Type 0 where

@@ -10,32 +10,26 @@ pub enum Access {
 }
 
 impl Access {
-    /// The number of the access: 1 read, 2 write, 3 both.
-    pub fn number(self) -> u8
-        ensures { result ≡ number self }
-    {
-        self as u8
-    }
-
     /// Whether a value may be read.
     pub fn reads(self) -> bool
         ensures { result ≡ reads self }
     {
-        match self {
-            Access::ReadOnly => true,
-            Access::WriteOnly => false,
-            Access::ReadWrite => true,
-        }
+        matches!(self, Access::ReadOnly | Access::ReadWrite)
     }
 
     /// Whether a value may be written.
     pub fn writes(self) -> bool
         ensures { result ≡ writes self }
     {
-        match self {
-            Access::ReadOnly => false,
-            Access::WriteOnly => true,
-            Access::ReadWrite => true,
-        }
+        matches!(self, Access::WriteOnly | Access::ReadWrite)
+    }
+}
+
+/// The number of the access: 1 read, 2 write, 3 both.
+impl From<Access> for u8 {
+    ghost from_gives = { λ access n. n ≡ number access };
+
+    fn from(access: Access) -> u8 {
+        access as u8
     }
 }

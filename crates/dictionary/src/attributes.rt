@@ -1,9 +1,9 @@
 //! What is told of an entry beside its value.
-ghost use Rattle.std.specs.Prelude.{◌≡◌};
-ghost use Rattle.dictionary.specs.Plain.{objection, start_objection};
+ghost use Rattle.std.specs.Prelude.{◌≡◌, None};
+ghost use Rattle.dictionary.specs.Commits.{decided};
+ghost use Rattle.dictionary.specs.Plain.{lawful_lengths, objection, start_objection};
 
 use crate::access::Access;
-use crate::table;
 use wire::AbortCode;
 
 /// An entry's access and the lengths in bytes that its value may have, from shortest to longest.
@@ -15,21 +15,49 @@ pub struct Attributes {
 }
 
 impl Attributes {
-    /// What speaks against writing a value of some length to an entry with these attributes.
-    pub fn objection(self, len: usize) -> Option<AbortCode>
-        ensures { result ≡ objection self len }
+    /// Says what speaks against writing a value of some length to an entry with these attributes.
+    pub fn check(self, len: usize) -> Result<(), AbortCode>
+        ensures { result ≡ decided (objection self len) }
     {
-        table::objection(self, len)
+        self.check_access()?;
+        if len < usize::from(self.shortest) {
+            return Err(AbortCode::LengthTooLow);
+        }
+        if len > usize::from(self.longest) {
+            return Err(AbortCode::LengthTooHigh);
+        }
+        Ok(())
     }
 
-    /// What speaks against starting a write to an entry with these attributes, where its length is known or not yet.
-    pub fn start_objection(self, size: Option<u32>) -> Option<AbortCode>
-        ensures { result ≡ start_objection self size }
+    /// Says what speaks against starting a write to an entry with these attributes, where its length is known or not yet.
+    pub fn check_start(self, size: Option<u32>) -> Result<(), AbortCode>
+        ensures { result ≡ decided (start_objection self size) }
     {
         match size {
-            Some(len) => self.objection(len as usize),
-            None if self.access.writes() => None,
-            None => Some(AbortCode::ReadOnly),
+            Some(len) => self.check(len as usize),
+            None => self.check_access(),
         }
+    }
+
+    /// Says what speaks against writing any value.
+    fn check_access(self) -> Result<(), AbortCode>
+        ensures { result ≡ decided (start_objection self None) }
+    {
+        if self.access.writes() {
+            Ok(())
+        } else {
+            Err(AbortCode::ReadOnly)
+        }
+    }
+
+    /// Whether the lengths are in order within 1 to 1,024, and a value's length fits them.
+    pub(crate) fn are_lawful(self, len: usize) -> bool
+        ensures { result ≡ lawful_lengths self len }
+    {
+        1 <= self.shortest
+            && self.shortest <= self.longest
+            && self.longest <= 1024
+            && usize::from(self.shortest) <= len
+            && len <= usize::from(self.longest)
     }
 }

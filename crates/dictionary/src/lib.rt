@@ -18,6 +18,6 @@ pub use laws::dictionary_laws;
 pub use readable::Readable;
 pub use refusal::{AddRefusal, CopyRefusal};
 pub use samples::sample;
-pub use starting::start_verdict;
+pub use starting::check_start;
 pub use table::Table;
 pub use writable::Writable;

@@ -1,6 +1,7 @@
 //! Why a call on a dictionary was turned away, with the numbers of docs/refusals.md.
 ghost use Rattle.std.specs.Prelude.{◌≡◌};
 ghost use Rattle.dictionary.specs.Refusals.{add_number, copy_number};
+ghost use Rattle.dictionary.specs.declared.refusal.CopyRefusal.TheVariants.{Verdict};
 
 use wire::AbortCode;
 
@@ -17,17 +18,17 @@ pub enum AddRefusal {
     NoRoom = 11,
 }
 
-impl AddRefusal {
-    /// The refusal's number, 8 to 11.
-    pub fn number(self) -> u8
-        ensures { result ≡ add_number self }
-    {
-        self as u8
+/// The refusal's number, 8 to 11.
+impl From<AddRefusal> for u8 {
+    ghost from_gives = { λ refusal n. n ≡ add_number refusal };
+
+    fn from(refusal: AddRefusal) -> u8 {
+        refusal as u8
     }
 }
 
 /// Why a value was not copied.
-#[derive(Clone, Copy, Debug)]
+#[derive(Clone, Copy, PartialEq, Eq, Debug)]
 pub enum CopyRefusal {
     /// The dictionary's verdict on the read.
     Verdict(AbortCode),
@@ -37,6 +38,7 @@ pub enum CopyRefusal {
 
 impl CopyRefusal {
     /// The refusal's number, 12; a verdict is told by its code and has none.
+    // No conversion: From gives a number for each value, and a verdict has none.
     pub fn number(self) -> Option<u8>
         ensures { result ≡ copy_number self }
     {
@@ -44,5 +46,14 @@ impl CopyRefusal {
             CopyRefusal::Verdict(_) => None,
             CopyRefusal::ShortBuffer => Some(12),
         }
+    }
+}
+
+/// A verdict on the read is why the value is not copied.
+impl From<AbortCode> for CopyRefusal {
+    ghost from_gives = { λ code refusal. refusal ≡ Verdict code };
+
+    fn from(code: AbortCode) -> CopyRefusal {
+        CopyRefusal::Verdict(code)
     }
 }

@@ -1,16 +1,15 @@
 //! A dictionary in fixed memory.
-ghost use Rattle.std.specs.Prelude.{◌≡◌, ◌≤◌, true, length, take};
+ghost use Rattle.std.specs.Prelude.{◌≡◌, true, length};
 ghost use Rattle.dictionary.specs.Layouts.{laid};
 
 use crate::row::Row;
+use arrayvec::ArrayVec;
 
 mod adding;
 mod bytes;
 mod reading;
 mod searching;
 mod writing;
-
-pub(crate) use writing::objection;
 
 /// How many entries a table has at most.
 const MOST_ENTRIES: usize = 64;
@@ -19,13 +18,10 @@ const MOST_ENTRIES: usize = 64;
 const MOST_BYTES: usize = 4096;
 
 /// A dictionary of at most 64 entries, whose longest lengths add up to at most 4,096 bytes.
+// No model: an entry says by a function which values it admits, and a model's value may hold none.
 #[derive(Drop)]
 pub struct Table {
-    rows: [Row; MOST_ENTRIES],
-    count: usize,
-    bytes: [u8; MOST_BYTES],
-    reserved: usize,
-    ghost sizes: { (length rows ≡ 64) × (length bytes ≡ 4096) },
-    ghost bounds: { (count ≤ 64) × (reserved ≤ 4096) },
-    ghost layout: { laid 0 (take count rows) reserved ≡ true },
+    rows: ArrayVec<Row, MOST_ENTRIES>,
+    bytes: ArrayVec<u8, MOST_BYTES>,
+    ghost layout: { laid 0 rows.items (length bytes.items) ≡ true },
 }

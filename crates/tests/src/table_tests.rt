@@ -21,7 +21,7 @@ fn a_65th_entry_is_refused_first_of_all(rt: HostRuntime) {
         assert_eq!(rt; table.add(at(index, 0), both(1, 64), &[0]), Ok(()));
     }
     assert_eq!(rt; table.add(at(0, 0), both(0, 0), &[]), Err(AddRefusal::Full));
-    assert_eq!(rt; AddRefusal::Full.number(), 8);
+    assert_eq!(rt; u8::from(AddRefusal::Full), 8);
 }
 
 #[test]
@@ -37,7 +37,7 @@ fn entries_come_in_rising_order(rt: HostRuntime) {
         Err(AddRefusal::NotAbove)
     );
     assert_eq!(rt; table.add(at(0x2000, 2), both(1, 1), &[0]), Ok(()));
-    assert_eq!(rt; AddRefusal::NotAbove.number(), 9);
+    assert_eq!(rt; u8::from(AddRefusal::NotAbove), 9);
 }
 
 #[test]
@@ -64,7 +64,7 @@ fn lengths_and_values_are_lawful(rt: HostRuntime) {
         Err(AddRefusal::Unlawful)
     );
     assert_eq!(rt; table.add(at(1, 0), both(1, 1024), &[0; 1024]), Ok(()));
-    assert_eq!(rt; AddRefusal::Unlawful.number(), 10);
+    assert_eq!(rt; u8::from(AddRefusal::Unlawful), 10);
 }
 
 #[test]
@@ -79,34 +79,19 @@ fn no_more_than_4096_bytes_are_reserved(rt: HostRuntime) {
         Err(AddRefusal::NoRoom)
     );
     assert_eq!(rt; table.add(at(5, 0), both(1, 1), &[0]), Ok(()));
-    assert_eq!(rt; AddRefusal::NoRoom.number(), 11);
+    assert_eq!(rt; u8::from(AddRefusal::NoRoom), 11);
 }
 
 #[test]
 fn a_refused_copy_leaves_the_buffer(rt: HostRuntime) {
     let table = sample();
     let mut buffer = [7u8; 5];
-    assert!(rt;
-        matches!(
-            table.copy_value(at(0x1008, 0), &mut buffer),
-            Err(CopyRefusal::ShortBuffer)
-        )
-    );
+    assert_eq!(rt; table.copy_value(at(0x1008, 0), &mut buffer), Err(CopyRefusal::ShortBuffer));
     assert_eq!(rt; CopyRefusal::ShortBuffer.number(), Some(12));
-    assert!(rt;
-        matches!(
-            table.copy_value(at(0x1008, 1), &mut buffer),
-            Err(CopyRefusal::Verdict(AbortCode::NoSubindex))
-        )
-    );
-    assert!(rt;
-        matches!(
-            table.copy_value(at(0x1009, 0), &mut buffer),
-            Err(CopyRefusal::Verdict(AbortCode::NoObject))
-        )
-    );
+    assert_eq!(rt; table.copy_value(at(0x1008, 1), &mut buffer), Err(CopyRefusal::Verdict(AbortCode::NoSubindex)));
+    assert_eq!(rt; table.copy_value(at(0x1009, 0), &mut buffer), Err(CopyRefusal::Verdict(AbortCode::NoObject)));
     assert_eq!(rt; buffer, [7; 5]);
-    assert!(rt; matches!(table.copy_value(at(0x1000, 0), &mut buffer), Ok(4)));
+    assert_eq!(rt; table.copy_value(at(0x1000, 0), &mut buffer), Ok(4));
     assert_eq!(rt; buffer, [0x92, 1, 2, 0, 7]);
 }
 
@@ -119,12 +104,7 @@ fn an_unreadable_value_is_refused_before_the_buffer_is_looked_at(rt: HostRuntime
         longest: 2,
     };
     assert_eq!(rt; table.add(at(1, 0), attributes, &[1, 2]), Ok(()));
-    assert!(rt;
-        matches!(
-            table.copy_value(at(1, 0), &mut []),
-            Err(CopyRefusal::Verdict(AbortCode::WriteOnly))
-        )
-    );
+    assert_eq!(rt; table.copy_value(at(1, 0), &mut []), Err(CopyRefusal::Verdict(AbortCode::WriteOnly)));
 }
 
 #[test]
@@ -146,7 +126,7 @@ fn verdicts_come_in_their_order(rt: HostRuntime) {
     );
     assert_eq!(rt; table.commit(at(0x2000, 1), &[1, 2]), Ok(()));
     let mut buffer = [0u8; 2];
-    assert!(rt; matches!(table.copy_value(at(0x2000, 1), &mut buffer), Ok(2)));
+    assert_eq!(rt; table.copy_value(at(0x2000, 1), &mut buffer), Ok(2));
     assert_eq!(rt; buffer, [1, 2]);
 }
 
@@ -158,6 +138,6 @@ fn entries_are_found_one_after_the_other(rt: HostRuntime) {
     assert_eq!(rt; table.next(at(0x2000, 0)), Some(at(0x2000, 1)));
     assert_eq!(rt; table.next(at(0x2001, 0)), None);
     assert_eq!(rt; table.attributes(at(0x2001, 0)), Ok(both(1, 1024)));
-    assert_eq!(rt; Access::ReadWrite.number(), 3);
+    assert_eq!(rt; u8::from(Access::ReadWrite), 3);
     assert_eq!(rt; table.attributes(at(0x2001, 1)), Err(AbortCode::NoSubindex));
 }

@@ -1,15 +1,16 @@
 //! An empty table, and one entry more.
-ghost use Rattle.std.specs.Prelude.{◌≡◌, ◌+◌, ◌≤◌, [], ◌∷◌, ◌++◌, length, None, nat_le, nat_lt};
+ghost use Rattle.std.specs.Prelude.{◌≡◌, ◌+◌, [], ◌∷◌, ◌++◌, length, None, nat_le, nat_lt};
 ghost use Rattle.dictionary.specs.Additions.{last_at, is_above, needed, add_refusal, added};
 ghost use Rattle.dictionary.specs.Commits.{decided};
-ghost use Rattle.dictionary.specs.Plain.{plain, lawful_lengths};
+ghost use Rattle.dictionary.specs.Plain.{plain};
 ghost use Rattle.dictionary.specs.Tables.{table_entries};
 
 use crate::attributes::Attributes;
 use crate::refusal::AddRefusal;
 use crate::row::Row;
-use crate::table::bytes::overwrite;
-use crate::table::{MOST_BYTES, MOST_ENTRIES, Table};
+use crate::table::Table;
+use crate::table::bytes::reserve;
+use arrayvec::ArrayVec;
 use wire::Multiplexor;
 
 impl Table {
@@ -18,10 +19,8 @@ impl Table {
         ensures { table_entries result ≡ [] }
     {
         Table {
-            rows: [Row::VACANT; MOST_ENTRIES],
-            count: 0,
-            bytes: [0; MOST_BYTES],
-            reserved: 0,
+            rows: ArrayVec::new(),
+            bytes: ArrayVec::new(),
         }
     }
 
@@ -35,113 +34,58 @@ impl Table {
         ensures answer { result ≡ decided (add_refusal (table_entries self.old) multiplexor attributes value.now) }
         ensures after { table_entries self.new ≡ added (table_entries self.old) multiplexor attributes value.now }
     {
-        match self.refusal(multiplexor, attributes, value) {
-            Some(refusal) => Err(refusal),
-            None => {
-                self.append(multiplexor, attributes, value);
-                Ok(())
-            }
-        }
-    }
-
-    /// Why an entry is not taken.
-    fn refusal(
-        &self,
-        multiplexor: Multiplexor,
-        attributes: Attributes,
-        value: &[u8],
-    ) -> Option<AddRefusal>
-        ensures { result ≡ add_refusal (table_entries self.now) multiplexor attributes value.now }
-    {
         if self.is_full() {
-            return Some(AddRefusal::Full);
+            return Err(AddRefusal::Full);
         }
         if !self.is_above_last(multiplexor) {
-            return Some(AddRefusal::NotAbove);
+            return Err(AddRefusal::NotAbove);
         }
-        if !are_lawful(attributes, value.len()) {
-            return Some(AddRefusal::Unlawful);
+        if !attributes.are_lawful(value.len()) {
+            return Err(AddRefusal::Unlawful);
         }
         if self.lacks_room(attributes.longest) {
-            return Some(AddRefusal::NoRoom);
+            return Err(AddRefusal::NoRoom);
         }
-        None
+        self.append(multiplexor, attributes, value);
+        Ok(())
     }
 
     /// Whether no further entry can be taken.
     fn is_full(&self) -> bool
         ensures { result ≡ nat_le 64 (length (table_entries self.now)) }
     {
-        self.len() >= MOST_ENTRIES
+        self.rows.is_full()
     }
 
     /// Whether a longest length is more than the bytes that are left.
     fn lacks_room(&self, longest: u16) -> bool
         ensures { result ≡ nat_lt 4096 (needed (table_entries self.now) + longest) }
     {
-        self.needed() + longest as usize > MOST_BYTES
+        self.bytes.remaining_capacity() < usize::from(longest)
     }
 
     /// Whether a multiplexor is above that of the last entry.
     fn is_above_last(&self, multiplexor: Multiplexor) -> bool
         ensures { result ≡ is_above (last_at (table_entries self.now)) multiplexor }
     {
-        match self.last() {
-            Some(last) => last < multiplexor,
-            None => true,
-        }
-    }
-
-    /// How many entries there are.
-    fn len(&self) -> usize
-        ensures { result ≡ length (table_entries self.now) }
-    {
-        self.count
-    }
-
-    /// How many bytes the longest lengths of all entries take together.
-    fn needed(&self) -> usize
-        ensures value { result ≡ needed (table_entries self.now) }
-        ensures bound { result ≤ 4096 }
-    {
-        self.reserved
-    }
-
-    /// The multiplexor of the last entry.
-    fn last(&self) -> Option<Multiplexor>
-        ensures { result ≡ last_at (table_entries self.now) }
-    {
-        if self.count == 0 {
-            return None;
-        }
-        Some(self.rows[self.count - 1].multiplexor)
+        self.rows
+            .last()
+            .is_none_or(|last| last.multiplexor < multiplexor)
     }
 
     /// Takes an entry that nothing speaks against.
+    // Three values and no struct of them: who adds an entry has them apart, and each clause names what it speaks of.
     fn append(&mut self, multiplexor: Multiplexor, attributes: Attributes, value: &[u8])
         requires { add_refusal (table_entries self.old) multiplexor attributes value.now ≡ None }
         ensures { table_entries self.new ≡ table_entries self.old ++ plain multiplexor attributes value.now ∷ [] }
     {
-        let start = self.reserved;
-        overwrite(&mut self.bytes, start, value);
-        self.rows[self.count] = Row {
+        let start = self.bytes.len();
+        reserve(&mut self.bytes, value, attributes.longest);
+        self.rows.push(Row {
             multiplexor,
             attributes,
             start,
             length: value.len(),
-        };
-        self.count += 1;
-        self.reserved += attributes.longest as usize;
+        });
     }
-}
-
-/// Whether lengths are in order within 1 to 1,024, and a value's length fits them.
-fn are_lawful(attributes: Attributes, len: usize) -> bool
-    ensures { result ≡ lawful_lengths attributes len }
-{
-    1 <= attributes.shortest
-        && attributes.shortest <= attributes.longest
-        && attributes.longest <= 1024
-        && attributes.shortest as usize <= len
-        && len <= attributes.longest as usize
 }

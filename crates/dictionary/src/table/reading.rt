@@ -17,10 +17,8 @@ impl Readable for Table {
     ghost lawful = { table_lawful };
 
     fn attributes(&self, multiplexor: Multiplexor) -> Result<Attributes, AbortCode> {
-        match self.find(multiplexor) {
-            Ok(place) => Ok(self.rows[place].attributes),
-            Err(code) => Err(code),
-        }
+        let place = self.find(multiplexor)?;
+        Ok(self.rows[place].attributes)
     }
 
     fn copy_value(
@@ -28,26 +26,17 @@ impl Readable for Table {
         multiplexor: Multiplexor,
         buffer: &mut [u8],
     ) -> Result<usize, CopyRefusal> {
-        match self.readable(multiplexor) {
-            Ok(value) => {
-                if buffer.len() < value.len() {
-                    return Err(CopyRefusal::ShortBuffer);
-                }
-                buffer[0..value.len()].copy_from_slice(value);
-                Ok(value.len())
-            }
-            Err(code) => Err(CopyRefusal::Verdict(code)),
+        let value = self.readable(multiplexor)?;
+        if buffer.len() < value.len() {
+            return Err(CopyRefusal::ShortBuffer);
         }
+        buffer[..value.len()].copy_from_slice(value);
+        Ok(value.len())
     }
 
     fn next(&self, above: Multiplexor) -> Option<Multiplexor> {
-        for place in 0..self.count {
-            let multiplexor = self.rows[place].multiplexor;
-            if above < multiplexor {
-                return Some(multiplexor);
-            }
-        }
-        None
+        let first = self.rows.partition_point(|row| row.multiplexor <= above);
+        self.rows.get(first).map(|row| row.multiplexor)
     }
 }
 
@@ -56,17 +45,11 @@ impl Table {
     fn readable(&self, multiplexor: Multiplexor) -> Result<&[u8], AbortCode>
         ensures { MatchResult result (λ v. (read_verdict (table_entries self.now) multiplexor ≡ None) × (v.now ≡ value_at (table_entries self.now) multiplexor)) (λ c. read_verdict (table_entries self.now) multiplexor ≡ Some c) }
     {
-        match self.find(multiplexor) {
-            Ok(place) => {
-                let row = self.rows[place];
-                if !row.attributes.access.reads() {
-                    return Err(AbortCode::WriteOnly);
-                }
-                let start = row.start;
-                let end = start + row.length;
-                Ok(&self.bytes[start..end])
-            }
-            Err(code) => Err(code),
+        let place = self.find(multiplexor)?;
+        let row = self.rows[place];
+        if !row.attributes.access.reads() {
+            return Err(AbortCode::WriteOnly);
         }
+        Ok(&self.bytes[row.start..row.start + row.length])
     }
 }

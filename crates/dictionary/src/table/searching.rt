@@ -1,11 +1,11 @@
 //! Finding the entry that is asked for.
 ghost use Rattle.std.specs.Prelude.{◌≡◌, MatchResult};
 ghost use Rattle.dictionary.specs.Entries.{has_index};
-ghost use Rattle.dictionary.specs.Places.{place_at};
 ghost use Rattle.dictionary.specs.Questions.{absence};
 ghost use Rattle.dictionary.specs.Tables.{table_entries, Stands, Absent};
 
 use crate::table::Table;
+use search::place;
 use wire::{AbortCode, Multiplexor};
 
 impl Table {
@@ -13,22 +13,7 @@ impl Table {
     pub(super) fn find(&self, multiplexor: Multiplexor) -> Result<usize, AbortCode>
         ensures { MatchResult result (λ i. Stands self.now multiplexor i) (λ c. Absent self.now multiplexor c) }
     {
-        match self.place(multiplexor) {
-            Some(place) => Ok(place),
-            None => Err(self.absence(multiplexor)),
-        }
-    }
-
-    /// The place of the entry at a multiplexor.
-    fn place(&self, multiplexor: Multiplexor) -> Option<usize>
-        ensures { result ≡ place_at multiplexor (table_entries self.now) }
-    {
-        for place in 0..self.count {
-            if self.rows[place].multiplexor == multiplexor {
-                return Some(place);
-            }
-        }
-        None
+        place(&self.rows, multiplexor).ok_or_else(|| self.absence(multiplexor))
     }
 
     /// The code that says why there is no entry at a multiplexor.
@@ -46,11 +31,6 @@ impl Table {
     fn has_index(&self, index: u16) -> bool
         ensures { result ≡ has_index index (table_entries self.now) }
     {
-        for place in 0..self.count {
-            if self.rows[place].multiplexor.index == index {
-                return true;
-            }
-        }
-        false
+        self.rows.iter().any(|row| row.multiplexor.index == index)
     }
 }

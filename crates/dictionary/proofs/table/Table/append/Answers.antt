@@ -1,33 +1,27 @@
-use Rattle.std.proofs.Common.{ℕ, ◌+◌, List, take, set, ap, ◌∙◌, arith, length-set}
-use Rattle.dictionary.specs.Layouts.{entries}
-use Rattle.dictionary.proofs.Appending.{free, fresh, table_extended, table_appended}
+use Rattle.std.proofs.Common.{ℕ, ◌-◌, [], ◌∷◌, ◌++◌, length, replicate, ap, ◌∙◌, arith}
+use Rattle.std.proofs.lemmas.List.{length-replicate}
+use Rattle.dictionary.proofs.Appending.{free, table_extended, table_appended}
+use Rattle.dictionary.proofs.Storing.{entries_along, laid_along}
 use Rattle.dictionary.proofs.table.Table.append.Goals as goal
 
-pub overwrite-requires : goal.overwrite-requires
-overwrite-requires c =
-    let f = free c.args.self.now c.args.multiplexor c.args.attributes c.args.value.now c.requires in omega arith
+pub reserve-requires : goal.reserve-requires
+reserve-requires c =
+    let f = free c.args.self.now c.args.multiplexor c.args.attributes c.args.value.now c.requires in record { short = f.short; bounded = f.bounded; room = f.room }
 
-pub bounds-self-self : goal.bounds-self-self
-bounds-self-self c =
-    (free c.args.self.now c.args.multiplexor c.args.attributes c.args.value.now c.requires).row
+pub push-requires : goal.push-requires
+push-requires c =
+    let f = free c.args.self.now c.args.multiplexor c.args.attributes c.args.value.now c.requires in (omega arith, f.row)
 
-pub invariant_of-self-clause-sizes : goal.invariant_of-self-clause-sizes
-invariant_of-self-clause-sizes c =
-    let t = c.args.self.now in
-    let f = fresh t c.args.multiplexor c.args.attributes c.args.value.now in
-    (length-set t.rows t.count f ∙ t.sizes.0, c.overwrite.auto.bytes ∙ t.sizes.1)
-
-pub invariant_of-self-clause-bounds : goal.invariant_of-self-clause-bounds
-invariant_of-self-clause-bounds c =
-    let f = free c.args.self.now c.args.multiplexor c.args.attributes c.args.value.now c.requires in (omega arith, omega arith)
-
-pub invariant_of-self-clause-layout : goal.invariant_of-self-clause-layout
-invariant_of-self-clause-layout c =
+pub invariant_of-self : goal.invariant_of-self
+invariant_of-self c =
     let t = c.args.self.now in
     let m = c.args.multiplexor in
     let a = c.args.attributes in
     let v = c.args.value.now in
-    table_extended t m a v (free t m a v c.requires)
+    let f = free t m a v c.requires in
+    let rows = c.push.ensures.items ∙ ap (λ (n : ℕ). t.rows.items ++ (record { multiplexor = m; attributes = a; start = n; length = length v }) ∷ []) c.len-start.ensures.value in
+    let zeros = length-replicate {A = ℕ} (a.longest - length v) 0 in
+    record { layout = laid_along c.reserve.ensures rows (table_extended t m a v f (replicate (a.longest - length v) 0) (omega arith)) }
 
 pub returns : goal.returns
 returns c =
@@ -35,5 +29,6 @@ returns c =
     let m = c.args.multiplexor in
     let a = c.args.attributes in
     let v = c.args.value.now in
-    let rows = take (t.count + 1) (set t.rows t.count (fresh t m a v)) in
-    ap (λ (bytes : List ℕ). entries bytes rows) c.overwrite.ensures ∙ table_appended t m a v (free t m a v c.requires)
+    let f = free t m a v c.requires in
+    let rows = c.push.ensures.items ∙ ap (λ (n : ℕ). t.rows.items ++ (record { multiplexor = m; attributes = a; start = n; length = length v }) ∷ []) c.len-start.ensures.value in
+    entries_along c.reserve.ensures rows ∙ table_appended t m a v f (replicate (a.longest - length v) 0)

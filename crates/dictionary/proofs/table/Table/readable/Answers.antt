@@ -9,16 +9,18 @@ use Rattle.dictionary.proofs.table.Table.readable.Goals as goal
 pub returns-then-not-reads : goal.returns-then-not-reads
 returns-then-not-reads c =
     let t = c.args.self.now in
-    let there = c.in-Ok.ensures.there in
-    read_present c.args.multiplexor (table_entries t) (entry t.bytes (row_at t.rows c.in-Ok.place)) there
-    ∙ cond-false _ _ _ (sym c.if-not-reads.ensures)
+    let there = c.in_ok-place.ensures.there in
+    let unread = rw c.deref.ensures.0 at c.if-not-reads.ensures in
+    read_present c.args.multiplexor (table_entries t) (entry t.bytes.items (row_at t.rows.items c.in_ok-place.place)) there
+    ∙ cond-false _ _ _ (sym unread)
 
-pub returns-else-not-reads : goal.returns-else-not-reads
-returns-else-not-reads c =
+pub returns : goal.returns
+returns c =
     let t = c.args.self.now in
-    let r = row_at t.rows c.in-Ok.place in
-    let there = c.in-Ok.ensures.there in
+    let r = row_at t.rows.items c.in_ok-place.place in
+    let there = c.in_ok-place.ensures.there in
+    let read = rw c.deref.ensures.0 at c.if-not-reads.ensures in
     let size : (r.start + r.length) - r.start ≡ r.length = omega arith in (
-      read_present c.args.multiplexor (table_entries t) (entry t.bytes r) there ∙ cond-true _ _ _ (sym c.if-not-reads.ensures),
-      ap (λ (n : ℕ). take n (drop r.start t.bytes)) size ∙ sym (ap value_of there),
+      read_present c.args.multiplexor (table_entries t) (entry t.bytes.items r) there ∙ cond-true _ _ _ (sym read),
+      rw (c.deref.ensures.0, c.deref-2.ensures.0) (ap (λ (n : ℕ). take n (drop r.start t.bytes.items)) size ∙ sym (ap value_of there)),
     )

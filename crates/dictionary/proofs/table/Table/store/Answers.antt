@@ -1,7 +1,7 @@
-use Rattle.std.proofs.Common.{ℕ, List, length, ap, ◌∙◌, arith, length-set}
-use Rattle.dictionary.specs.Layouts.{row_at, entries}
+use Rattle.std.proofs.Common.{length, set, ap, ◌∙◌, arith}
+use Rattle.dictionary.specs.Layouts.{row_at, laid}
 use Rattle.dictionary.proofs.Lengths.{fits-longest}
-use Rattle.dictionary.proofs.Storing.{rows_resized, table_resized, table_stored}
+use Rattle.dictionary.proofs.Storing.{resized, length-overwritten, table_resized, table_stored, entries_along, laid_along, rows_written, bytes_written}
 use Rattle.dictionary.proofs.TableFacts.{table_slot}
 use Rattle.dictionary.proofs.table.Table.store.Goals as goal
 
@@ -10,19 +10,26 @@ overwrite-requires c =
     let t = c.args.self.now in
     let i = c.args.place in
     let slot = table_slot t i c.requires.within in
-    let short = fits-longest (row_at t.rows i).attributes (length c.args.value.now) c.requires.fitting in omega arith
+    let short = fits-longest (row_at t.rows.items i).attributes (length c.args.value.now) c.requires.fitting in
+    rw (c.deref.ensures.0, c.deref_mut.ensures.value) (omega arith)
 
-pub invariant_of-self-clause-sizes : goal.invariant_of-self-clause-sizes
-invariant_of-self-clause-sizes c =
-    let t = c.args.self.now in (length-set t.rows c.args.place _ ∙ t.sizes.0, c.overwrite.auto.bytes ∙ t.sizes.1)
-
-pub invariant_of-self-clause-layout : goal.invariant_of-self-clause-layout
-invariant_of-self-clause-layout c = table_resized c.args.self.now c.args.place c.requires.within (length c.args.value.now) c.requires.fitting
+pub invariant_of-self : goal.invariant_of-self
+invariant_of-self c =
+    let t = c.args.self.now in
+    let i = c.args.place in
+    let v = c.args.value.now in
+    let rows = rows_written t.rows c.deref_mut-2.result.now i (length v) c.deref_mut-2.ensures.value in
+    let bytes = bytes_written t.bytes c.deref_mut.result.now c.overwrite.new.bytes v c.deref.result.now t.rows.items i c.deref_mut.ensures.value c.deref.ensures.0 c.overwrite.auto.bytes c.overwrite.ensures in
+    let slot = table_slot t i c.requires.within in
+    let short = fits-longest (row_at t.rows.items i).attributes (length v) c.requires.fitting in
+    let n = length-overwritten (row_at t.rows.items i).start v t.bytes.items (omega arith) in
+    record { layout = laid_along bytes rows (ap (laid 0 (set t.rows.items i (resized (length v) (row_at t.rows.items i)))) n ∙ table_resized t i c.requires.within (length v) c.requires.fitting) }
 
 pub returns : goal.returns
 returns c =
     let t = c.args.self.now in
     let i = c.args.place in
     let v = c.args.value.now in
-    ap (λ (bytes : List ℕ). entries bytes (rows_resized t i c.requires.within (length v))) c.overwrite.ensures
-    ∙ table_stored t i c.requires.within v (fits-longest (row_at t.rows i).attributes (length v) c.requires.fitting)
+    let rows = rows_written t.rows c.deref_mut-2.result.now i (length v) c.deref_mut-2.ensures.value in
+    let bytes = bytes_written t.bytes c.deref_mut.result.now c.overwrite.new.bytes v c.deref.result.now t.rows.items i c.deref_mut.ensures.value c.deref.ensures.0 c.overwrite.auto.bytes c.overwrite.ensures in
+    entries_along bytes rows ∙ table_stored t i c.requires.within v (fits-longest (row_at t.rows.items i).attributes (length v) c.requires.fitting)

@@ -1,28 +1,34 @@
-use Rattle.std.proofs.Common.{◌≡◌, true, false, sym, ◌∙◌, arith, rules}
-use Rattle.std.proofs.lemmas.Bool.{cond-true, cond-false}
+use Rattle.std.specs.Prelude.{MatchOption}
+use Rattle.std.specs.Borrow.{Bor}
+use Rattle.std.specs.Option.{IsSomeAnd, IfSome, is_some, option_map, option_copied}
+use Rattle.std.proofs.Common.{◌≡◌, ℕ, not, ltb, List, length, get_or, slice_get, Some, None, Option, ap, ◌∙◌, sym, rules, tests}
+use Rattle.std.proofs.lemmas.Bool.{ltb-true, ltb-false}
+use Rattle.std.proofs.lemmas.Option.{slice_get_past, slice_get-get_or}
+use Rattle.std.proofs.lemmas.List.Sorted.{IsPartitionPoint-from_clause}
+use Rattle.wire.specs.declared.multiplexor.Multiplexor.{Multiplexor}
 use Rattle.wire.specs.Multiplexors.{before}
-use Rattle.dictionary.specs.Layouts.{row_at, entries}
-use Rattle.dictionary.specs.Questions.{next_above}
-use Rattle.dictionary.proofs.Rows.{rows_more, rows_all}
+use Rattle.dictionary.specs.declared.row.Row.{Row}
+use Rattle.dictionary.proofs.Finding.{at, first_above, table_parted}
 use Rattle.dictionary.proofs.table.reading.TableReadable.next.Goals as goal
 
-pub returns-then-lt : goal.returns-then-lt
-returns-then-lt c =
-    let t = c.args.self.now in
-    let i = c.loop-place.place in
-    let over : before c.args.above (row_at t.rows i).multiplexor ≡ true = search rules in
-    let e = rows_more (λ rs. next_above (entries t.bytes rs) c.args.above) t.rows t.count i (omega arith) (omega arith) in
-    sym (cond-true _ _ _ over) ∙ sym e ∙ c.loop-place.invariant
+-- what is made of the row that is found is its multiplexor
+told : (o : Option (Bor Row)) (p : Option Multiplexor) (Said : Bor Row → Multiplexor → Type 0) → ((r : Bor Row) (m : Multiplexor) → Said r m → m ≡ at r.now) → MatchOption o (p ≡ None) (λ r. IsSomeAnd p (Said r)) → p ≡ option_map at (option_copied o)
+told None p Said f h = h
+told (Some r) None Said f h = absurd h
+told (Some r) (Some m) Said f h = ap Some (f r m h)
 
-pub loop-place-preserved : goal.loop-place-preserved
-loop-place-preserved c =
-    let t = c.args.self.now in
-    let i = c.loop-place.place in
-    let not-over : before c.args.above (row_at t.rows i).multiplexor ≡ false = search rules in
-    let e = rows_more (λ rs. next_above (entries t.bytes rs) c.args.above) t.rows t.count i (omega arith) (omega arith) in
-    sym (cond-false _ _ _ not-over) ∙ sym e ∙ c.loop-place.invariant
+-- the row that is found at a place
+got : (rows : List Row) (n : ℕ) (o : Option (Bor Row)) → is_some o ≡ ltb n (length rows) → IfSome o (λ r. r.now ≡ get_or rows n r.now) → option_copied o ≡ slice_get rows n
+got rows n None e h = sym (slice_get_past rows n (ltb-false n (length rows) (sym e)))
+got rows n (Some r) e h = ap Some h ∙ sym (slice_get-get_or rows n r.now (ltb-true n (length rows) (sym e)))
 
 pub returns : goal.returns
 returns c =
     let t = c.args.self.now in
-    sym (rows_all (λ rs. next_above (entries t.bytes rs) c.args.above) t.rows t.count c.loop-place.place (omega arith)) ∙ c.loop-place.invariant
+    let m = c.args.above in
+    let n = c.partition_point-first.result in
+    let clause = rw c.deref.ensures.0 at c.partition_point-first.ensures.partitioned in
+    let point = IsPartitionPoint-from_clause (λ (r : Row). not (before m (at r))) t.rows.items n clause (table_parted t m) (λ a r f' k. search (rules, tests)) in
+    told c.get.result c.map.result _ (λ r x h. search rules) c.map.ensures.cases
+    ∙ ap (λ (o : Option Row). option_map at o) (got c.deref-2.result.now n c.get.result c.get.ensures.lookup.0 c.get.ensures.lookup.1 ∙ ap (λ (l : List Row). slice_get l n) c.deref-2.ensures.0)
+    ∙ sym (first_above t.bytes.items m t.rows.items n point.0 point.1)

@@ -1,0 +1,7 @@
+use Rattle.std.proofs.Common.{arith}
+use Rattle.std.proofs.lemmas.Bool.Decides.{nat_tests}
+use Rattle.dictionary.proofs.TableFacts.{table_needed}
+use Rattle.dictionary.proofs.table.Table.lacks_room.Goals as goal
+
+pub returns : goal.returns
+returns c = let n = table_needed c.args.self.now in grind (arith, nat_tests)
