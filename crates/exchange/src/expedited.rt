@@ -1,6 +1,6 @@
 //! A value of up to four bytes written in one request (CiA 301, 7.2.4.3.3: SDO download initiate, expedited).
 ghost use Rattle.std.specs.Prelude.{◌≡◌};
-ghost use Rattle.wire.specs.Transfers.{value_in};
+ghost use Rattle.wire.specs.FrameData.{value_in};
 ghost use Rattle.dictionary.specs.Commits.{committed};
 ghost use Rattle.dictionary.specs.Verdicts.{write_verdict};
 ghost use Rattle.exchange.specs.Outcomes.{exchange, node_after};

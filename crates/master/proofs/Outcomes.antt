@@ -12,7 +12,7 @@ use Rattle.sdo.specs.declared.crc_offer.CrcOffer.{CrcOffer}
 use Rattle.sdo.specs.declared.toggle.Toggle.{Toggle}
 use Rattle.sdo.specs.declared.toggle.Toggle.TheVariants.{Zero, One}
 use Rattle.sdo.specs.Segments.{other}
-use Rattle.sdo.specs.Transfers.{Transfer, Expedited, Segmented}
+use Rattle.wire.specs.Transfers.{Transfer, Expedited, Segmented}
 use Rattle.sdo.specs.Requests.{Request}
 use Rattle.sdo.specs.Answers.{Answer, answer_in}
 use Rattle.sdo.specs.Answers as answer

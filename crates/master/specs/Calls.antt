@@ -3,7 +3,7 @@ use Rattle.std.specs.Prelude.{ℕ, ◌+◌, ◌-◌, Bool, true, false, cond, Li
 use Rattle.wire.specs.declared.multiplexor.Multiplexor.{Multiplexor}
 use Rattle.wire.specs.declared.abort_code.AbortCode.TheVariants.{TimedOut, GeneralError}
 use Rattle.sdo.specs.declared.crc_offer.CrcOffer.TheVariants.{Offered}
-use Rattle.sdo.specs.Transfers.{Expedited, Segmented}
+use Rattle.wire.specs.Transfers.{Expedited, Segmented}
 use Rattle.sdo.specs.Requests.{Request}
 use Rattle.sdo.specs.Requests as request
 use Rattle.sdo.specs.Frames.{request_frame}

@@ -6,7 +6,7 @@ use Rattle.wire.specs.declared.abort_code.AbortCode.{AbortCode}
 use Rattle.wire.specs.Multiplexors.{same}
 use Rattle.wire.specs.Frames.{answer_identifier}
 use Rattle.sdo.specs.declared.toggle.Toggle.{Toggle}
-use Rattle.sdo.specs.Transfers.{Expedited}
+use Rattle.wire.specs.Transfers.{Expedited}
 use Rattle.sdo.specs.Answers.{Answer, answer_in}
 use Rattle.sdo.specs.Answers as answer
 use Rattle.master.specs.declared.heard.Heard.TheVariants as heard

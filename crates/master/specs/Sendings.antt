@@ -3,7 +3,7 @@ use Rattle.std.specs.Prelude.{ℕ, zero, suc, ◌+◌, Bool, false, List, [], �
 use Rattle.wire.specs.declared.frame.Frame.{Frame}
 use Rattle.wire.specs.declared.node_number.NodeNumber.{NodeNumber}
 use Rattle.sdo.specs.BlockRequests as block
-use Rattle.sdo.specs.Fields.{padded}
+use Rattle.wire.specs.FrameData.{padded}
 use Rattle.sdo.specs.Frames.{request_frame, block_request_frame}
 use Rattle.sdo.specs.Requests.{shown_request}
 use Rattle.sdo.specs.Segments.{segment}

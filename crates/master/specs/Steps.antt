@@ -10,7 +10,7 @@ use Rattle.sdo.specs.declared.crc_offer.CrcOffer.{CrcOffer}
 use Rattle.sdo.specs.declared.toggle.Toggle.{Toggle}
 use Rattle.sdo.specs.declared.toggle.Toggle.TheVariants.{Zero}
 use Rattle.sdo.specs.Segments.{segment, other}
-use Rattle.sdo.specs.Transfers.{Transfer, Expedited, Segmented}
+use Rattle.wire.specs.Transfers.{Transfer, Expedited, Segmented}
 use Rattle.sdo.specs.Requests.{Request}
 use Rattle.sdo.specs.Requests as request
 use Rattle.sdo.specs.Answers.{Answer, answer_in}

@@ -1,7 +1,7 @@
 //! The value that is written, or what has been read of one, and the segments that it is cut into.
 ghost use Rattle.std.specs.Prelude.{◌≡◌, ◌≤◌, IsTrue};
-ghost use Rattle.sdo.specs.Fields.{padded};
-ghost use Rattle.sdo.specs.Segments.{segment, data_value};
+ghost use Rattle.wire.specs.FrameData.{padded, value_in};
+ghost use Rattle.sdo.specs.Segments.{segment};
 ghost use Rattle.master.specs.Values.{segments, unused, is_last, closing_crc};
 
 use arrayvec::ArrayVec;
@@ -32,7 +32,7 @@ pub(crate) fn is_last(value: &Value, number: usize) -> bool
 
 /// The data of a segment.
 pub(crate) fn segment(value: &Value, number: usize) -> SegmentData
-    ensures { data_value result ≡ segment number value.now.items }
+    ensures { value_in result ≡ segment number value.now.items }
 {
     SegmentData::new(sdo::segment(value, number)).unwrap()
 }
@@ -41,10 +41,7 @@ pub(crate) fn segment(value: &Value, number: usize) -> SegmentData
 pub(crate) fn padded_segment(value: &Value, number: usize) -> [u8; 7]
     ensures { result ≡ padded 7 (segment number value.now.items) }
 {
-    let part = sdo::segment(value, number);
-    let mut bytes = [0; 7];
-    bytes[0..part.len()].copy_from_slice(part);
-    bytes
+    segment(value, number).padded()
 }
 
 /// How many bytes of the last segment are not of the value.

@@ -145,7 +145,7 @@ pub(crate) fn check_abort(
     sending: Sending,
     code: AbortCode,
 ) -> Result<(), Fail> {
-    let [a, b, c, d] = code.number().to_le_bytes();
+    let [a, b, c, d] = u32::from(code).to_le_bytes();
     assert!(rt; sending.quiet);
     check_one(rt, master, sending, [0x80, 1, 0x20, 0, a, b, c, d])?;
     let failure = failure(master)?;

@@ -5,7 +5,7 @@ use Rattle.wire.specs.declared.abort_code.AbortCode.{AbortCode}
 use Rattle.wire.specs.declared.abort_code.AbortCode.TheVariants.{UnknownCommand}
 use Rattle.wire.specs.declared.node_number.NodeNumber.{NodeNumber}
 use Rattle.wire.specs.declared.frame.Frame.{Frame}
-use Rattle.wire.specs.Ranges.{fits_expedited}
+use Rattle.wire.specs.FrameData.{fits_expedited}
 use Rattle.wire.specs.Frames.{request_identifier}
 use Rattle.wire.specs.Transfers.{Transfer, Expedited, Segmented}
 use Rattle.wire.specs.Requests.{Request, request_in}

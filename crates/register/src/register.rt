@@ -44,7 +44,7 @@ const REGISTER: [Registered; 15] = [
 pub fn layer_of(code: AbortCode) -> Layer
     ensures { result ≡ layer_of (number code) }
 {
-    match place(&REGISTER, code.number()) {
+    match place(&REGISTER, u32::from(code)) {
         Some(i) => REGISTER[i].1,
         None => Layer::Protocol,
     }

@@ -3,7 +3,12 @@ use Rattle.std.specs.Prelude.{ℕ, ◌+◌, ◌*◌, ◌/◌, ◌%◌, cond, Lis
 use Rattle.wire.specs.Fields.{b, bit1, number_in}
 use Rattle.sdo.specs.Fields.{bit2}
 use Rattle.sdo.specs.declared.crc_offer.CrcOffer.{CrcOffer}
+use Rattle.sdo.specs.declared.ranged.Ranged.{Ranged}
 use Rattle.sdo.specs.declared.crc_offer.CrcOffer.TheVariants.{Offered, NotOffered}
+
+-- a number of segments, 1 to 127
+abbrev pub BlockSize : Type 0
+BlockSize = Ranged 1 127
 
 -- the offer of a CRC, bit 2 of b0
 abbrev pub offer_bit : CrcOffer → ℕ

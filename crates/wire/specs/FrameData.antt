@@ -19,5 +19,8 @@ abbrev pub data_of : ℕ → ℕ → List ℕ → Option (List ℕ)
 data_of least most v = cond (fits least most v) (Some v) None
 
 -- the start of a transfer carries one to four bytes
+abbrev pub fits_expedited : List ℕ → Bool
+fits_expedited v = fits 1 4 v
+
 abbrev pub expedited_of : List ℕ → Option (List ℕ)
 expedited_of v = data_of 1 4 v

@@ -1,7 +1,7 @@
 //! What a master does with each of the node's answers, by the answer that it awaits.
 ghost use Rattle.sdo.specs.Answers.{shown_answer};
-ghost use Rattle.sdo.specs.Segments.{data_value};
-ghost use Rattle.sdo.specs.Transfers.{shown_transfer};
+ghost use Rattle.wire.specs.FrameData.{value_in};
+ghost use Rattle.wire.specs.Transfers.{shown_transfer};
 ghost use Rattle.master.specs.Steps.{segment_taken, hear_initiate_download, hear_download_segment, hear_initiate_upload, hear_upload_segment, hear_initiate_block, hear_acknowledgement, hear_end, answered};
 ghost use Rattle.master.specs.Shown.{Follows};
 
@@ -9,7 +9,7 @@ use super::Master;
 use crate::phase::Awaiting;
 use crate::sending::Hearing;
 use crate::value::is_last;
-use sdo::{Answer, CrcOffer, SegmentData, Toggle, Transfer};
+use sdo::{Answer, CrcOffer, Segment, Toggle, Transfer};
 use wire::{AbortCode, Multiplexor};
 
 impl Master {
@@ -26,9 +26,7 @@ impl Master {
                 multiplexor,
                 transfer,
             } => self.hear_initiate_upload(awaiting, multiplexor, transfer),
-            Answer::UploadSegment { toggle, data, last } => {
-                self.hear_upload_segment(awaiting, toggle, data, last)
-            }
+            Answer::UploadSegment(segment) => self.hear_upload_segment(awaiting, segment),
             Answer::InitiateBlockDownload {
                 multiplexor,
                 crc,
@@ -99,20 +97,14 @@ impl Master {
     }
 
     /// A segment of a read.
-    fn hear_upload_segment(
-        &mut self,
-        awaiting: Awaiting,
-        toggle: Toggle,
-        data: SegmentData,
-        last: bool,
-    ) -> Hearing
-        ensures { Follows (hear_upload_segment self.old awaiting toggle (data_value «data») last) self.new result }
+    fn hear_upload_segment(&mut self, awaiting: Awaiting, segment: Segment) -> Hearing
+        ensures { Follows (hear_upload_segment self.old awaiting segment.toggle (value_in segment.bytes) segment.last) self.new result }
     {
         match awaiting {
             Awaiting::UploadSegment {
                 toggle: asked,
                 size,
-            } if toggle == asked => self.read_on(toggle, size, data, last),
+            } if segment.toggle == asked => self.read_on(size, segment),
             Awaiting::UploadSegment { .. } => self.find(awaiting, AbortCode::ToggleNotAlternated),
             _ => self.find(awaiting, AbortCode::UnknownCommand),
         }

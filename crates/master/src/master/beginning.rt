@@ -2,7 +2,7 @@
 ghost use Rattle.std.specs.Prelude.{◌≡◌, ◌<◌, ◌≤◌, length, if◌then◌else◌, Ok, Err, nat_le};
 ghost use Rattle.master.specs.declared.refusal.BeginRefusal.TheVariants.{NotExpedited};
 ghost use Rattle.sdo.specs.Requests.{shown_request, InitiateDownload};
-ghost use Rattle.sdo.specs.Transfers.{Expedited};
+ghost use Rattle.wire.specs.Transfers.{Expedited};
 ghost use Rattle.master.specs.Calls.{Read, Write, start as start_of, write_awaited, free, opened, starting, begin};
 ghost use Rattle.master.specs.Shown.{shown_start, Begins};
 

@@ -11,7 +11,7 @@ use crate::heard::Heard;
 use crate::phase::{Awaiting, Phase};
 use crate::sending::{Batch, Hearing, Sending};
 use crate::value::{is_last, padded_segment, segment};
-use sdo::{BlockRequest, BlockSize, Request, SequenceNumber, Toggle};
+use sdo::{BlockRequest, BlockSize, Request, Segment, SequenceNumber, Toggle};
 use wire::Frame;
 
 impl Master {
@@ -85,11 +85,11 @@ impl Master {
     pub(crate) fn send_segment(&mut self, toggle: Toggle, number: u16) -> Hearing
         ensures { Follows (send_segment self.old toggle number) self.new result }
     {
-        let request = Request::DownloadSegment {
+        let request = Request::DownloadSegment(Segment {
             toggle,
-            data: segment(&self.value, number as usize),
+            bytes: segment(&self.value, number as usize),
             last: is_last(&self.value, number as usize),
-        };
+        });
         self.send(
             Awaiting::DownloadSegment { toggle, number },
             number,

@@ -1,7 +1,7 @@
 //! Reads: the answer to the start, and segment after segment (CiA 301, 7.2.4.3: SDO upload and SDO upload segment).
 ghost use Rattle.std.specs.Prelude.{◌≡◌, ◌≤◌, ◌++◌, length};
-ghost use Rattle.sdo.specs.Segments.{data_value};
-ghost use Rattle.sdo.specs.Transfers.{shown_transfer, Segmented};
+ghost use Rattle.wire.specs.FrameData.{value_in};
+ghost use Rattle.wire.specs.Transfers.{shown_transfer, Segmented};
 ghost use Rattle.master.specs.declared.phase.Awaiting.TheVariants.{UploadSegment};
 ghost use Rattle.master.specs.Values.{may_come, differs};
 ghost use Rattle.master.specs.Steps.{ask_segment, upload_started, read_whole, read_on};
@@ -11,7 +11,7 @@ use super::Master;
 use crate::phase::Awaiting;
 use crate::sending::{Batch, Hearing};
 use crate::value::{CAPACITY, Value};
-use sdo::{Request, SegmentData, Toggle, Transfer};
+use sdo::{Request, Segment, SegmentData, Toggle, Transfer};
 use wire::AbortCode;
 
 impl Master {
@@ -41,39 +41,35 @@ impl Master {
     }
 
     /// One more segment of the value is there.
-    pub(crate) fn read_on(
-        &mut self,
-        toggle: Toggle,
-        size: Option<u32>,
-        data: SegmentData,
-        last: bool,
-    ) -> Hearing
-        ensures { Follows (read_on self.old (UploadSegment toggle size) toggle size last (self.old.value ++ data_value «data»)) self.new result }
+    pub(crate) fn read_on(&mut self, size: Option<u32>, segment: Segment) -> Hearing
+        ensures { Follows (read_on self.old (UploadSegment segment.toggle size) segment.toggle size segment.last (self.old.value ++ value_in segment.bytes)) self.new result }
     {
+        let toggle = segment.toggle;
+        let bytes = segment.bytes;
         let awaiting = Awaiting::UploadSegment { toggle, size };
-        let total = self.value.len() + data.value().len();
+        let total = self.value.len() + bytes.value().len();
         if total > CAPACITY {
             self.find(awaiting, AbortCode::OutOfMemory)
-        } else if last {
-            self.read_whole(awaiting, size, data)
+        } else if segment.last {
+            self.read_whole(awaiting, size, bytes)
         } else {
-            self.value.try_extend_from_slice(data.value()).unwrap();
+            self.value.try_extend_from_slice(bytes.value()).unwrap();
             self.ask_segment(toggle.other(), size)
         }
     }
 
     /// The last segment of the value is there.
-    fn read_whole(&mut self, awaiting: Awaiting, size: Option<u32>, data: SegmentData) -> Hearing
-        requires { length (self.old.value ++ data_value «data») ≤ 1024 }
-        ensures { Follows (read_whole self.old awaiting size (self.old.value ++ data_value «data»)) self.new result }
+    fn read_whole(&mut self, awaiting: Awaiting, size: Option<u32>, bytes: SegmentData) -> Hearing
+        requires { length (self.old.value ++ value_in bytes) ≤ 1024 }
+        ensures { Follows (read_whole self.old awaiting size (self.old.value ++ value_in bytes)) self.new result }
     {
-        let total = self.value.len() + data.value().len();
+        let total = self.value.len() + bytes.value().len();
         if total < 1 {
             self.find(awaiting, AbortCode::OutOfMemory)
         } else if differs(size, total) {
             self.find(awaiting, AbortCode::LengthMismatch)
         } else {
-            self.value.try_extend_from_slice(data.value()).unwrap();
+            self.value.try_extend_from_slice(bytes.value()).unwrap();
             self.succeed()
         }
     }

@@ -1,7 +1,8 @@
 use Rattle.std.proofs.Common.{◌≡◌, ◌^◌, ◌<◌, ◌≤◌, length, Some, ap, ◌∙◌, arith, length-take, rules}
 use Rattle.wire.specs.Frames.{request_frame, answer_frame}
 use Rattle.wire.specs.Requests.{InitiateDownload}
-use Rattle.wire.specs.Transfers.{Expedited, value_in}
+use Rattle.wire.specs.FrameData.{value_in}
+use Rattle.wire.specs.Transfers.{Expedited}
 use Rattle.dictionary.specs.Verdicts.{write_verdict}
 use Rattle.node.specs.Steps.{Commit, unless, step}
 use Rattle.node.specs.Nodes.{reaction, counted, dictionary_after}
