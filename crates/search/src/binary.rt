@@ -11,6 +11,7 @@ pub fn place<R: Keyed>(rows: &[R], key: R::Key) -> Option<usize>
     ensures stands { Connected (earlier R.Key.cmp) → IfSome result (λ i. Stands R.Keyed.label key rows.now i) }
     ensures answers { Rising (earlier R.Key.cmp) R.Keyed.label rows.now → Answers (earlier R.Key.cmp) R.Keyed.label key rows.now result }
 {
+    // By count_before, so that one search is proved: the library's binary_search_by_key would be a second beside its loop.
     let first = count_before(rows, key);
     let row = rows.get(first)?;
     (row.key() <= key).then_some(first)
