@@ -1,5 +1,5 @@
 -- Bytes that are followed by their own check value.
-use Rattle.std.proofs.Common.{◌≡◌, ℕ, zero, suc, ◌*◌, ◌/◌, ◌%◌, ◌^◌, ◌<◌, List, [], ◌∷◌, ◌++◌, sym, refl, ap, ◌∙◌, arith, lit<}
+use Rattle.std.proofs.Common.{◌≡◌, ℕ, zero, suc, ◌*◌, ◌/◌, ◌%◌, ◌^◌, ◌<◌, List, [], ◌∷◌, sym, refl, ap, ◌∙◌, arith, lit<}
 use lib.Bits.{bit_xor, xor_self, xor_zero_r}
 use Rattle.std.proofs.lemmas.List.Sums.{fold-append}
 use Rattle.crc.specs.Registers.{after_bit, bit, after_bits, after_byte, after_bytes, crc}
