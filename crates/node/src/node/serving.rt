@@ -20,6 +20,7 @@ const NOWHERE: Multiplexor = Multiplexor {
     subindex: 0,
 };
 
+// Each contract names the meaning of the dictionary, which is all that its trait tells of any.
 impl Node {
     /// Serves one frame over the node's dictionary.
     pub fn serve<D: Writable>(&mut self, dictionary: &mut D, frame: Frame) -> Reaction
@@ -73,6 +74,7 @@ impl Node {
     fn upload<D: Readable>(&self, dictionary: &D, multiplexor: Multiplexor) -> Reaction
         ensures { result ≡ reaction self.now.number (upload-step (D.Readable.meaning dictionary.now) multiplexor) }
     {
+        // A match: both arms answer the master, and no error is left to hand on.
         match short_value(dictionary, multiplexor) {
             Ok(data) => self.reply(
                 Served::Answered,
@@ -122,6 +124,7 @@ fn short_value<D: Readable>(
         (λ v. upload-step (D.Readable.meaning dictionary.now) multiplexor ≡ Reply (InitiateUpload multiplexor (Expedited (value_in v))))
         (λ c. upload-step (D.Readable.meaning dictionary.now) multiplexor ≡ Refuse multiplexor c) }
 {
+    // By length: the trait fills the front of a buffer of its caller's, and needs no heap.
     let mut buffer = [0; 4];
     let length = dictionary
         .copy_value(multiplexor, &mut buffer)
