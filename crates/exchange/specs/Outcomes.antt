@@ -12,13 +12,13 @@ use Rattle.wire.specs.Frames.{answer_identifier, request_frame, answer_frame}
 use Rattle.dictionary.specs.Entries.{Entry}
 use Rattle.dictionary.specs.Verdicts.{write_verdict}
 use Rattle.node.specs.declared.node.Node.{Node}
-use Rattle.exchange.specs.declared.outcome.Failure.{Failure}
-use Rattle.exchange.specs.declared.outcome.Failure.TheVariants.{Refused, NotAwaited}
+use Rattle.exchange.specs.declared.outcome.WriteFailure.{WriteFailure}
+use Rattle.exchange.specs.declared.outcome.WriteFailure.TheVariants.{Refused, NotAwaited}
 use Rattle.exchange.specs.declared.expedited.Exchange.{Exchange}
 
 -- a write is accepted, or fails
 abbrev pub Outcome : Type 0
-Outcome = Result (Unit {0}) Failure
+Outcome = Result (Unit {0}) WriteFailure
 
 -- what an answer says of a write to a multiplexor
 abbrev pub answer_says : Multiplexor → Answer → Outcome

@@ -7,7 +7,7 @@ use wire::{AbortCode, Answer, Frame, Identifier, Multiplexor, NodeNumber};
 
 /// Why a write does not count as accepted.
 #[derive(Clone, Copy, PartialEq, Eq, Debug)]
-pub enum Failure {
+pub enum WriteFailure {
     /// The node aborted the write, and the code says why.
     Refused(AbortCode),
     /// No answer came that the start of a write may have.
@@ -19,19 +19,19 @@ pub(crate) fn outcome_of(
     node: NodeNumber,
     multiplexor: Multiplexor,
     reply: Option<Frame>,
-) -> Result<(), Failure>
+) -> Result<(), WriteFailure>
     ensures { result ≡ reply_says node multiplexor reply }
 {
-    let frame = reply.ok_or(Failure::NotAwaited)?;
+    let frame = reply.ok_or(WriteFailure::NotAwaited)?;
     if frame.identifier != Identifier::of_answers(node) {
-        return Err(Failure::NotAwaited);
+        return Err(WriteFailure::NotAwaited);
     }
-    let answer = Answer::from_bytes(frame.bytes).ok_or(Failure::NotAwaited)?;
+    let answer = Answer::from_bytes(frame.bytes).ok_or(WriteFailure::NotAwaited)?;
     told(multiplexor, answer)
 }
 
 /// What an answer says of a write to a multiplexor.
-fn told(multiplexor: Multiplexor, answer: Answer) -> Result<(), Failure>
+fn told(multiplexor: Multiplexor, answer: Answer) -> Result<(), WriteFailure>
     ensures { result ≡ answer_says multiplexor (shown_answer answer) }
 {
     match answer {
@@ -39,8 +39,8 @@ fn told(multiplexor: Multiplexor, answer: Answer) -> Result<(), Failure>
             multiplexor: written,
         } if written == multiplexor => Ok(()),
         Answer::InitiateDownload { .. } | Answer::InitiateUpload { .. } => {
-            Err(Failure::NotAwaited)
+            Err(WriteFailure::NotAwaited)
         }
-        Answer::Abort { code, .. } => Err(Failure::Refused(code)),
+        Answer::Abort { code, .. } => Err(WriteFailure::Refused(code)),
     }
 }
