@@ -1,6 +1,7 @@
 -- Bytes that are followed by their own check value.
-use Rattle.std.proofs.Common.{◌≡◌, ℕ, zero, suc, ◌*◌, ◌/◌, ◌%◌, ◌^◌, ◌<◌, List, [], ◌∷◌, ◌++◌, sym, refl, ap, ◌∙◌, arith, lit<}
+use Rattle.std.proofs.Common.{◌≡◌, ℕ, zero, suc, ◌*◌, ◌/◌, ◌%◌, ◌^◌, ◌<◌, List, [], ◌∷◌, sym, refl, ap, ◌∙◌, arith, lit<}
 use lib.Bits.{bit_xor, xor_self, xor_zero_r}
+use Rattle.std.proofs.lemmas.List.Sums.{fold-append}
 use Rattle.crc.specs.Registers.{after_bit, bit, after_bits, after_byte, after_bytes, crc}
 use Rattle.crc.specs.KnownValues.{CheckedIsZero}
 use Rattle.crc.proofs.Linearity.{after_bit-below}
@@ -14,10 +15,6 @@ after_bytes-below : (r : ℕ) (bs : List ℕ) → r < 2 ^ 16 → after_bytes r b
 unfolding after_byte
 after_bytes-below r [] h = h
 after_bytes-below r (b ∷ bs) h = after_bytes-below (after_byte r b) bs (after_bits-below 8 r b h)
-
-after_bytes-append : (r : ℕ) (bs cs : List ℕ) → after_bytes r (bs ++ cs) ≡ after_bytes (after_bytes r bs) cs
-after_bytes-append r [] cs = refl
-after_bytes-append r (b ∷ bs) cs = after_bytes-append (after_byte r b) bs cs
 
 -- a register that takes in its own high byte moves up
 own_byte : (r b : ℕ) → r < 2 ^ 16 → r / 2 ^ 8 ≡ b → after_byte r b ≡ r % 2 ^ 8 * 2 ^ 8
@@ -37,4 +34,4 @@ own_bytes r h =
 
 pub checked_is_zero : CheckedIsZero
 checked_is_zero bs =
-    after_bytes-append 0 bs ((crc bs / 256) ∷ (crc bs % 256) ∷ []) ∙ own_bytes (crc bs) (after_bytes-below 0 bs (lit< tt))
+    fold-append after_byte 0 bs ((crc bs / 256) ∷ (crc bs % 256) ∷ []) ∙ own_bytes (crc bs) (after_bytes-below 0 bs (lit< tt))

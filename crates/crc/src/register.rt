@@ -8,11 +8,9 @@ use crate::table;
 pub fn checksum(bytes: &[u8]) -> u16
     ensures { result ≡ crc bytes.now }
 {
-    let mut register = 0;
-    for byte in bytes {
-        register = after_byte(register, *byte);
-    }
-    register
+    bytes
+        .iter()
+        .fold(0, |register, byte| after_byte(register, *byte))
 }
 
 /// The register after one more byte.

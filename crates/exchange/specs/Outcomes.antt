@@ -1,5 +1,5 @@
 -- What becomes of a write: by the dictionary's verdict on it, and by the answer that tells of it.
-use Rattle.std.specs.Prelude.{ℕ, ◌+◌, ◌%◌, cond, List, Some, None, Option, ◌==◌}
+use Rattle.std.specs.Prelude.{ℕ, ◌+◌, ◌%◌, cond, List, Some, None, Option, Ok, Err, Result, ◌==◌}
 use Rattle.wire.specs.declared.multiplexor.Multiplexor.{Multiplexor}
 use Rattle.wire.specs.declared.abort_code.AbortCode.{AbortCode}
 use Rattle.wire.specs.declared.frame.Frame.{Frame}
@@ -12,33 +12,37 @@ use Rattle.wire.specs.Frames.{answer_identifier, request_frame, answer_frame}
 use Rattle.dictionary.specs.Entries.{Entry}
 use Rattle.dictionary.specs.Verdicts.{write_verdict}
 use Rattle.node.specs.declared.node.Node.{Node}
-use Rattle.exchange.specs.declared.outcome.Outcome.{Outcome}
-use Rattle.exchange.specs.declared.outcome.Outcome.TheVariants.{Accepted, Refused, NotAwaited}
+use Rattle.exchange.specs.declared.outcome.WriteFailure.{WriteFailure}
+use Rattle.exchange.specs.declared.outcome.WriteFailure.TheVariants.{Refused, NotAwaited}
 use Rattle.exchange.specs.declared.expedited.Exchange.{Exchange}
+
+-- a write is accepted, or fails
+abbrev pub Outcome : Type 0
+Outcome = Result (Unit {0}) WriteFailure
 
 -- what an answer says of a write to a multiplexor
 abbrev pub answer_says : Multiplexor → Answer → Outcome
-answer_says m (InitiateDownload n) = cond (same n m) Accepted NotAwaited
-answer_says m (InitiateUpload n t) = NotAwaited
-answer_says m (Abort n c) = Refused c
+answer_says m (InitiateDownload n) = cond (same n m) (Ok tt) (Err NotAwaited)
+answer_says m (InitiateUpload n t) = Err NotAwaited
+answer_says m (Abort n c) = Err (Refused c)
 
 abbrev pub some_answer_says : Multiplexor → Option Answer → Outcome
-some_answer_says m None = NotAwaited
+some_answer_says m None = Err NotAwaited
 some_answer_says m (Some a) = answer_says m a
 
 -- what a frame says of it, if it is the node's
 abbrev pub frame_says : NodeNumber → Multiplexor → Frame → Outcome
-frame_says n m f = cond (f.identifier.number == (answer_identifier n).number) (some_answer_says m (answer_in f.bytes)) NotAwaited
+frame_says n m f = cond (f.identifier.number == (answer_identifier n).number) (some_answer_says m (answer_in f.bytes)) (Err NotAwaited)
 
 -- what a reply says of it, if one came
 abbrev pub reply_says : NodeNumber → Multiplexor → Option Frame → Outcome
-reply_says n m None = NotAwaited
+reply_says n m None = Err NotAwaited
 reply_says n m (Some f) = frame_says n m f
 
 -- a write without a verdict is accepted; one with a verdict is refused by its code
 abbrev pub outcome_by : Option AbortCode → Outcome
-outcome_by None = Accepted
-outcome_by (Some c) = Refused c
+outcome_by None = Ok tt
+outcome_by (Some c) = Err (Refused c)
 
 abbrev pub answer_by : Option AbortCode → Multiplexor → Answer
 answer_by None m = InitiateDownload m

@@ -5,17 +5,17 @@ ghost use Rattle.dictionary.specs.Commits.{committed};
 ghost use Rattle.dictionary.specs.Verdicts.{write_verdict};
 ghost use Rattle.exchange.specs.Outcomes.{exchange, node_after};
 
-use crate::outcome::{Outcome, outcome_of};
+use crate::outcome::{WriteFailure, outcome_of};
 use dictionary::Writable;
 use node::Node;
 use wire::{ExpeditedData, Frame, Multiplexor, Request, Transfer};
 
-/// The request, the node's reply, and what it says.
+/// The request, the node's reply, and what it says: that the value was set, or why it is not known to be.
 #[derive(Clone, Copy, Debug)]
 pub struct Exchange {
     pub request: Frame,
     pub reply: Option<Frame>,
-    pub outcome: Outcome,
+    pub outcome: Result<(), WriteFailure>,
 }
 
 /// Writes a value at a node: it is accepted and set where the dictionary has no verdict, else refused by the verdict's code.

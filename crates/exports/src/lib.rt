@@ -3,10 +3,7 @@
 
 ghost use Rattle.std.specs.Prelude.{◌≡◌};
 ghost use Rattle.crc.specs.Registers.{crc};
-ghost use Rattle.std.specs.Option.{option_map};
-ghost use Rattle.sdo.specs.Answers.{shown_answer};
-ghost use Rattle.sdo.specs.Requests.{shown_request};
-ghost use Rattle.exports.specs.Again.{some_request_bytes, some_answer_bytes, request_again, answer_again, each};
+ghost use Rattle.exports.specs.Again.{request_again, answer_again, each};
 
 use crc::checksum;
 use sdo::{Answer, Request};
@@ -23,6 +20,7 @@ pub extern "C" fn wontazhil_crc(bytes: &[u8]) -> u16
 }
 
 /// The bytes of four frames.
+// Four fields, and no array of frames: C has them by these names.
 #[repr(C)]
 #[derive(Clone, Copy)]
 pub struct Frames {
@@ -33,18 +31,22 @@ pub struct Frames {
 }
 
 /// Reads four frames as requests, and then makes each again; one that is none has all bits set.
+// C calls this function and the next by their names; what both do is in `make_again`.
 #[unsafe(no_mangle)]
 pub extern "C" fn wontazhil_requests(frames: &mut Frames)
     ensures { frames.new ≡ each request_again frames.old }
 {
-    let first = Request::from_bytes(frames.first);
-    let second = Request::from_bytes(frames.second);
-    let third = Request::from_bytes(frames.third);
-    let fourth = Request::from_bytes(frames.fourth);
-    frames.first = request_bytes(&first);
-    frames.second = request_bytes(&second);
-    frames.third = request_bytes(&third);
-    frames.fourth = request_bytes(&fourth);
+    make_again(
+        frames,
+        |bytes|
+            ensures { result ≡ request_again bytes }
+        {
+            match Request::from_bytes(bytes) {
+                Some(request) => request.to_bytes(),
+                None => NO_FRAME,
+            }
+        },
+    );
 }
 
 /// Reads four frames as answers, and then makes each again; one that is none has all bits set.
@@ -52,32 +54,29 @@ pub extern "C" fn wontazhil_requests(frames: &mut Frames)
 pub extern "C" fn wontazhil_answers(frames: &mut Frames)
     ensures { frames.new ≡ each answer_again frames.old }
 {
-    let first = Answer::from_bytes(frames.first);
-    let second = Answer::from_bytes(frames.second);
-    let third = Answer::from_bytes(frames.third);
-    let fourth = Answer::from_bytes(frames.fourth);
-    frames.first = answer_bytes(&first);
-    frames.second = answer_bytes(&second);
-    frames.third = answer_bytes(&third);
-    frames.fourth = answer_bytes(&fourth);
+    make_again(
+        frames,
+        |bytes|
+            ensures { result ≡ answer_again bytes }
+        {
+            match Answer::from_bytes(bytes) {
+                Some(answer) => answer.to_bytes(),
+                None => NO_FRAME,
+            }
+        },
+    );
 }
 
-/// The bytes of a request, if there is one.
-fn request_bytes(request: &Option<Request>) -> [u8; 8]
-    ensures { result ≡ some_request_bytes (option_map shown_request request.now) }
+/// Puts in place of each of four frames what is made of it.
+fn make_again<F: Fn([u8; 8]) -> [u8; 8]>(frames: &mut Frames, made: F)
+    requires { F.IsAlwaysCallable made }
+    ensures first { F.post made frames.old.first frames.new.first }
+    ensures second { F.post made frames.old.second frames.new.second }
+    ensures third { F.post made frames.old.third frames.new.third }
+    ensures fourth { F.post made frames.old.fourth frames.new.fourth }
 {
-    match request {
-        Some(request) => request.to_bytes(),
-        None => NO_FRAME,
-    }
-}
-
-/// The bytes of an answer, if there is one.
-fn answer_bytes(answer: &Option<Answer>) -> [u8; 8]
-    ensures { result ≡ some_answer_bytes (option_map shown_answer answer.now) }
-{
-    match answer {
-        Some(answer) => answer.to_bytes(),
-        None => NO_FRAME,
-    }
+    frames.first = made(frames.first);
+    frames.second = made(frames.second);
+    frames.third = made(frames.third);
+    frames.fourth = made(frames.fourth);
 }

@@ -14,7 +14,7 @@ use Rattle.dictionary.specs.Questions.{value_at, copy_refusal, refuses_copy, cop
 use Rattle.dictionary.specs.Commits.{decided, set_unless, committed}
 use Rattle.node.specs.Steps.{Commit, Refuse, unless, download, given, upload, unread_code}
 
-refused_by : (w : Option AbortCode) (c : AbortCode) → Err c ≡ decided w → w ≡ Some c
+pub refused_by : (w : Option AbortCode) (c : AbortCode) → Err c ≡ decided w → w ≡ Some c
 refused_by None c e = let z : ◌≡◌ {A = ℕ} 0 1 = cc in absurd (omega arith)
 refused_by (Some d) c e = cc
 

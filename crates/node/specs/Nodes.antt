@@ -1,5 +1,5 @@
 -- What a step makes of the node, of its dictionary and of what it answers.
-use Rattle.std.specs.Prelude.{ℕ, ◌+◌, ◌%◌, List, Some, None, Option}
+use Rattle.std.specs.Prelude.{◌≡◌, ℕ, ◌+◌, ◌%◌, List, Some, None, Option}
 use Rattle.std.specs.Option.{option_map}
 use Rattle.wire.specs.declared.node_number.NodeNumber.{NodeNumber}
 use Rattle.wire.specs.Frames.{answer_frame}
@@ -46,3 +46,9 @@ commits_after Ignore n = n
 
 abbrev pub counted : Step → Node → Node
 counted s n = record { number = n.number; commits = commits_after s n.commits }
+
+-- a step that was made: the answer, the node and the dictionary afterwards
+pub record Does (s : Step) (n m : Node) (d e : List Entry) (r : Reaction) : Type 0 where
+  pub answer : r ≡ reaction n.number s
+  pub node : m ≡ counted s n
+  pub dictionary : e ≡ dictionary_after s d

@@ -7,6 +7,7 @@ use wire::NodeNumber;
 mod serving;
 
 /// A node by its number, and how many values it has set, modulo 65,536.
+// The server of all transfers has a `Node` of its own, whose transfer may be open; in this one none ever is.
 #[derive(Clone, Copy, Debug)]
 pub struct Node {
     number: NodeNumber,

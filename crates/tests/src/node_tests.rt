@@ -15,23 +15,14 @@ fn check_served(
 ) -> Result<(), Fail> {
     let mut table = sample();
     let mut node = Node::new(NodeNumber::nearest(5));
-    let Some(identifier) = Identifier::new(identifier) else {
-        return Err(Fail::new("more than 11 bits"));
-    };
+    let identifier = Identifier::new(identifier).ok_or_else(|| Fail::new("more than 11 bits"))?;
     let reaction = node.serve(&mut table, Frame { identifier, bytes });
     assert_eq!(rt; reaction.served, served);
     assert_eq!(rt; node.commits() == 1, served == Served::Committed);
-    match reaction.reply {
-        Some(frame) => {
-            assert_eq!(rt; frame.identifier.number(), 0x585);
-            assert_eq!(rt; Some(frame.bytes), reply);
-            Ok(())
-        }
-        None => {
-            assert!(rt; reply.is_none());
-            Ok(())
-        },
-    }
+    let sender = reaction.reply.map(|frame| frame.identifier.number());
+    assert_eq!(rt; sender, reply.map(|_| 0x585));
+    assert_eq!(rt; reaction.reply.map(|frame| frame.bytes), reply);
+    Ok(())
 }
 
 #[test]

@@ -1,12 +1,12 @@
 //! What a node does with a frame: it serves expedited starts (CiA 301, 7.2.4.3.3 and 7.2.4.3.6).
-ghost use Rattle.std.specs.Prelude.{◌≡◌, Some, None};
+ghost use Rattle.std.specs.Prelude.{◌≡◌, Some, None, MatchResult};
 ghost use Rattle.node.specs.declared.served.Served.TheVariants.{Dropped};
 ghost use Rattle.wire.specs.Frames.{answer_frame};
-ghost use Rattle.wire.specs.Answers.{shown_answer};
+ghost use Rattle.wire.specs.Answers.{shown_answer, InitiateUpload};
 ghost use Rattle.wire.specs.Requests.{shown_request};
-ghost use Rattle.wire.specs.Transfers.{shown_transfer};
-ghost use Rattle.node.specs.Steps.{Refuse, given, unread_code, asked, download as download-step, upload as upload-step, step};
-ghost use Rattle.node.specs.Nodes.{reaction, counted, dictionary_after};
+ghost use Rattle.wire.specs.Transfers.{shown_transfer, value_in, Expedited};
+ghost use Rattle.node.specs.Steps.{Reply, Refuse, unread_code, asked, download as download-step, upload as upload-step, step};
+ghost use Rattle.node.specs.Nodes.{reaction, Does};
 
 use super::Node;
 use crate::reaction::Reaction;
@@ -20,28 +20,26 @@ const NOWHERE: Multiplexor = Multiplexor {
     subindex: 0,
 };
 
+// Each contract names the meaning of the dictionary, which is all that its trait tells of any.
 impl Node {
     /// Serves one frame over the node's dictionary.
     pub fn serve<D: Writable>(&mut self, dictionary: &mut D, frame: Frame) -> Reaction
-        ensures answer { result ≡ reaction self.old.number (step (D.Readable.meaning dictionary.old) self.old.number frame) }
-        ensures node { self.new ≡ counted (step (D.Readable.meaning dictionary.old) self.old.number frame) self.old }
-        ensures dictionary { D.Readable.meaning dictionary.new ≡ dictionary_after (step (D.Readable.meaning dictionary.old) self.old.number frame) (D.Readable.meaning dictionary.old) }
+        ensures { Does (step (D.Readable.meaning dictionary.old) self.old.number frame) self.old self.new (D.Readable.meaning dictionary.old) (D.Readable.meaning dictionary.new) result }
     {
-        if frame.identifier.number() != Identifier::of_requests(self.number).number() {
+        if frame.identifier != Identifier::of_requests(self.number) {
             return dropped();
         }
-        match Request::from_bytes(frame.bytes) {
-            Some(request) => self.answer(dictionary, request),
-            None => self.abort(NOWHERE, AbortCode::UnknownCommand),
-        }
+        let Some(request) = Request::from_bytes(frame.bytes) else {
+            return self.abort(NOWHERE, AbortCode::UnknownCommand);
+        };
+        self.answer(dictionary, request)
     }
 
     /// Answers a request: a start begins a transfer, and there is none that an abort could end.
     fn answer<D: Writable>(&mut self, dictionary: &mut D, request: Request) -> Reaction
-        ensures answer { result ≡ reaction self.old.number (asked (D.Readable.meaning dictionary.old) (shown_request request)) }
-        ensures node { self.new ≡ counted (asked (D.Readable.meaning dictionary.old) (shown_request request)) self.old }
-        ensures dictionary { D.Readable.meaning dictionary.new ≡ dictionary_after (asked (D.Readable.meaning dictionary.old) (shown_request request)) (D.Readable.meaning dictionary.old) }
+        ensures { Does (asked (D.Readable.meaning dictionary.old) (shown_request request)) self.old self.new (D.Readable.meaning dictionary.old) (D.Readable.meaning dictionary.new) result }
     {
+        // A match and no step that is handed in: each request has fields of its own.
         match request {
             Request::InitiateDownload {
                 multiplexor,
@@ -59,46 +57,33 @@ impl Node {
         multiplexor: Multiplexor,
         transfer: Transfer,
     ) -> Reaction
-        ensures answer { result ≡ reaction self.old.number (download-step (D.Readable.meaning dictionary.old) multiplexor (shown_transfer transfer)) }
-        ensures node { self.new ≡ counted (download-step (D.Readable.meaning dictionary.old) multiplexor (shown_transfer transfer)) self.old }
-        ensures dictionary { D.Readable.meaning dictionary.new ≡ dictionary_after (download-step (D.Readable.meaning dictionary.old) multiplexor (shown_transfer transfer)) (D.Readable.meaning dictionary.old) }
+        ensures { Does (download-step (D.Readable.meaning dictionary.old) multiplexor (shown_transfer transfer)) self.old self.new (D.Readable.meaning dictionary.old) (D.Readable.meaning dictionary.new) result }
     {
         let Transfer::Expedited { data } = transfer else {
             return self.abort(multiplexor, AbortCode::UnknownCommand);
         };
-        match dictionary.commit(multiplexor, data.value()) {
-            Ok(()) => {
-                self.commits = self.commits.wrapping_add(1);
-                self.reply(Served::Committed, Answer::InitiateDownload { multiplexor })
-            }
-            Err(code) => self.abort(multiplexor, code),
+        if let Err(code) = dictionary.commit(multiplexor, data.value()) {
+            return self.abort(multiplexor, code);
         }
+        // What the node has set in all, and no loop's count.
+        self.commits = self.commits.wrapping_add(1);
+        self.reply(Served::Committed, Answer::InitiateDownload { multiplexor })
     }
 
     /// The start of a read: a value of up to four bytes is given.
     fn upload<D: Readable>(&self, dictionary: &D, multiplexor: Multiplexor) -> Reaction
         ensures { result ≡ reaction self.now.number (upload-step (D.Readable.meaning dictionary.now) multiplexor) }
     {
-        let mut buffer = [0; 4];
-        match dictionary.copy_value(multiplexor, &mut buffer) {
-            Ok(length) => self.give(multiplexor, &buffer[0..length]),
-            Err(refusal) => self.abort(multiplexor, unread(refusal)),
-        }
-    }
-
-    /// Gives a value in the answer to its start, where it fits there.
-    fn give(&self, multiplexor: Multiplexor, value: &[u8]) -> Reaction
-        ensures { result ≡ reaction self.now.number (given multiplexor value.now) }
-    {
-        match ExpeditedData::new(value) {
-            Some(data) => self.reply(
+        // A match: both arms answer the master, and no error is left to hand on.
+        match short_value(dictionary, multiplexor) {
+            Ok(data) => self.reply(
                 Served::Answered,
                 Answer::InitiateUpload {
                     multiplexor,
                     transfer: Transfer::Expedited { data },
                 },
             ),
-            None => self.abort(multiplexor, AbortCode::UnknownCommand),
+            Err(code) => self.abort(multiplexor, code),
         }
     }
 
@@ -128,6 +113,23 @@ fn dropped() -> Reaction
         served: Served::Dropped,
         reply: None,
     }
+}
+
+/// A value that fits in the answer to its start, or the code that says why none is given.
+fn short_value<D: Readable>(
+    dictionary: &D,
+    multiplexor: Multiplexor,
+) -> Result<ExpeditedData, AbortCode>
+    ensures { MatchResult result
+        (λ v. upload-step (D.Readable.meaning dictionary.now) multiplexor ≡ Reply (InitiateUpload multiplexor (Expedited (value_in v))))
+        (λ c. upload-step (D.Readable.meaning dictionary.now) multiplexor ≡ Refuse multiplexor c) }
+{
+    // By length: the trait fills the front of a buffer of its caller's, and needs no heap.
+    let mut buffer = [0; 4];
+    let length = dictionary
+        .copy_value(multiplexor, &mut buffer)
+        .map_err(unread)?;
+    ExpeditedData::new(&buffer[0..length]).ok_or(AbortCode::UnknownCommand)
 }
 
 /// The code of a read that gave no value: the verdict, or that a longer value is not served.
