@@ -86,10 +86,19 @@ fn no_more_than_4096_bytes_are_reserved(rt: HostRuntime) {
 fn a_refused_copy_leaves_the_buffer(rt: HostRuntime) {
     let table = sample();
     let mut buffer = [7u8; 5];
-    assert_eq!(rt; table.copy_value(at(0x1008, 0), &mut buffer), Err(CopyRefusal::ShortBuffer));
+    assert_eq!(rt;
+        table.copy_value(at(0x1008, 0), &mut buffer),
+        Err(CopyRefusal::ShortBuffer)
+    );
     assert_eq!(rt; CopyRefusal::ShortBuffer.number(), Some(12));
-    assert_eq!(rt; table.copy_value(at(0x1008, 1), &mut buffer), Err(CopyRefusal::Verdict(AbortCode::NoSubindex)));
-    assert_eq!(rt; table.copy_value(at(0x1009, 0), &mut buffer), Err(CopyRefusal::Verdict(AbortCode::NoObject)));
+    assert_eq!(rt;
+        table.copy_value(at(0x1008, 1), &mut buffer),
+        Err(CopyRefusal::Verdict(AbortCode::NoSubindex))
+    );
+    assert_eq!(rt;
+        table.copy_value(at(0x1009, 0), &mut buffer),
+        Err(CopyRefusal::Verdict(AbortCode::NoObject))
+    );
     assert_eq!(rt; buffer, [7; 5]);
     assert_eq!(rt; table.copy_value(at(0x1000, 0), &mut buffer), Ok(4));
     assert_eq!(rt; buffer, [0x92, 1, 2, 0, 7]);
@@ -104,7 +113,10 @@ fn an_unreadable_value_is_refused_before_the_buffer_is_looked_at(rt: HostRuntime
         longest: 2,
     };
     assert_eq!(rt; table.add(at(1, 0), attributes, &[1, 2]), Ok(()));
-    assert_eq!(rt; table.copy_value(at(1, 0), &mut []), Err(CopyRefusal::Verdict(AbortCode::WriteOnly)));
+    assert_eq!(rt;
+        table.copy_value(at(1, 0), &mut []),
+        Err(CopyRefusal::Verdict(AbortCode::WriteOnly))
+    );
 }
 
 #[test]
