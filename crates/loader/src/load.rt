@@ -3,7 +3,7 @@ use crate::entries::print_entries;
 use crate::hex_bytes::HexBytes;
 use anyhow::Context;
 use dictionary::sample;
-use exchange::{Exchange, Outcome, expedited_write};
+use exchange::{Exchange, WriteFailure, expedited_write};
 use node::Node;
 use orders::Order;
 use wire::{ExpeditedData, NodeNumber};
@@ -25,7 +25,7 @@ pub fn load_all(rt: &HostRuntime, orders: &[Order]) -> anyhow::Result<()> {
             .context("an order has no bytes, or more than a start carries")?;
         let exchange = expedited_write(&mut node, &mut table, multiplexor, data);
         print_exchange(rt, exchange)?;
-        if let Outcome::Accepted = exchange.outcome {
+        if exchange.outcome.is_ok() {
             accepted = accepted.saturating_add(1);
         }
     }
@@ -44,12 +44,12 @@ fn print_exchange(rt: &HostRuntime, exchange: Exchange) -> anyhow::Result<()> {
         println!(rt; "  answer    {reply}")?;
     }
     match exchange.outcome {
-        Outcome::Accepted => println!(rt; "  accepted\n")?,
-        Outcome::Refused(code) => {
+        Ok(()) => println!(rt; "  accepted\n")?,
+        Err(WriteFailure::Refused(code)) => {
             let words = code.words();
             println!(rt; "  refused   {code} {words}\n")?
         }
-        Outcome::NotAwaited => println!(rt; "  not understood\n")?,
+        Err(WriteFailure::NotAwaited) => println!(rt; "  not understood\n")?,
     }
     Ok(())
 }

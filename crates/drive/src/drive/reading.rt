@@ -23,7 +23,7 @@ impl Readable for Drive {
         multiplexor: Multiplexor,
         buffer: &mut [u8],
     ) -> Result<usize, CopyRefusal> {
-        match Object::at(multiplexor).map_err(CopyRefusal::Verdict)? {
+        match Object::at(multiplexor)? {
             Object::ModeOfOperation => {
                 copy(&i8::from(self.mode_of_operation).to_le_bytes(), buffer)
             }

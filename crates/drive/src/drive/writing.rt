@@ -10,9 +10,7 @@ use wire::{AbortCode, Multiplexor};
 impl Writable for Drive {
     fn commit(&mut self, multiplexor: Multiplexor, value: &[u8]) -> Result<(), AbortCode> {
         let object = Object::at(multiplexor)?;
-        if let Some(code) = object.attributes().objection(value.len()) {
-            return Err(code);
-        }
+        object.attributes().check(value.len())?;
         match object {
             Object::ModeOfOperation => {
                 self.mode_of_operation = ModeOfOperation::try_from(value)?;

@@ -4,7 +4,8 @@ ghost use Rattle.node.specs.declared.served.Served.TheVariants.{Dropped};
 ghost use Rattle.wire.specs.Frames.{answer_frame};
 ghost use Rattle.wire.specs.Answers.{shown_answer, InitiateUpload};
 ghost use Rattle.wire.specs.Requests.{shown_request};
-ghost use Rattle.wire.specs.Transfers.{shown_transfer, value_in, Expedited};
+ghost use Rattle.wire.specs.FrameData.{value_in};
+ghost use Rattle.wire.specs.Transfers.{shown_transfer, Expedited};
 ghost use Rattle.node.specs.Steps.{Reply, Refuse, unread_code, asked, download as download-step, upload as upload-step, step};
 ghost use Rattle.node.specs.Nodes.{reaction, Does};
 
@@ -13,12 +14,6 @@ use crate::reaction::Reaction;
 use crate::served::Served;
 use dictionary::{CopyRefusal, Readable, Writable};
 use wire::{AbortCode, Answer, ExpeditedData, Frame, Identifier, Multiplexor, Request, Transfer};
-
-/// The multiplexor of an abort that answers no start.
-const NOWHERE: Multiplexor = Multiplexor {
-    index: 0,
-    subindex: 0,
-};
 
 // Each contract names the meaning of the dictionary, which is all that its trait tells of any.
 impl Node {
@@ -30,7 +25,7 @@ impl Node {
             return dropped();
         }
         let Some(request) = Request::from_bytes(frame.bytes) else {
-            return self.abort(NOWHERE, AbortCode::UnknownCommand);
+            return self.abort(Multiplexor::default(), AbortCode::UnknownCommand);
         };
         self.answer(dictionary, request)
     }
