@@ -13,7 +13,8 @@ use Rattle.sdo.specs.Segments.{other}
 use Rattle.sdo.specs.Transfers as coming
 use Rattle.dictionary.specs.Entries.{Entry}
 use Rattle.dictionary.specs.Commits.{decided}
-use Rattle.server.specs.declared.block_start.BlockStart.{BlockStart}
+use Rattle.server.specs.declared.download_start.DownloadStart.{DownloadStart}
+use Rattle.server.specs.declared.reception.Reception.{Reception}
 use Rattle.server.specs.declared.reaction.Reaction.{Reaction}
 use Rattle.server.specs.declared.transfer.Transfer as declared
 use Rattle.server.specs.States.{State, Idle, Download, Upload}
@@ -62,14 +63,14 @@ module _ (m : Multiplexor) (t : Toggle) (v : List ℕ) where
   more_given h = rw (lt-leb (length v) 7 h)
 
 -- a segment of a write: too long, the last one, or one before it
-module _ (d : List Entry) (m : Multiplexor) (size : Option ℕ) (t : Toggle) (last : Bool) (v : List ℕ) where
-  pub received_long : 1024 < length v → refused m LengthTooHigh ≡ received d m size t last v
+module _ (d : List Entry) (w : DownloadStart) (t : Toggle) (last : Bool) (v : List ℕ) where
+  pub received_long : 1024 < length v → refused w.multiplexor LengthTooHigh ≡ received d w t last v
   received_long h = rw (lt-ltb 1024 (length v) h)
 
-  pub received-last : length v ≤ 1024 → last ≡ true → completed d m size v (answer.DownloadSegment t) ≡ received d m size t last v
+  pub received-last : length v ≤ 1024 → last ≡ true → completed d w v (answer.DownloadSegment t) ≡ received d w t last v
   received-last h e = rw (le-ltb 1024 (length v) h, e)
 
-  pub received_more : length v ≤ 1024 → last ≡ false → answered (Download m size (other t) v) (answer.DownloadSegment t) ≡ received d m size t last v
+  pub received_more : length v ≤ 1024 → last ≡ false → answered (Download w (other t) v) (answer.DownloadSegment t) ≡ received d w t last v
   received_more h e = rw (le-ltb 1024 (length v) h, e)
 
 -- a frame with the node's identifier
@@ -82,9 +83,9 @@ unfolding step
 serving {s} {t} {d} {e} {r} o f is h = subst (λ (x : Option Frame). Serves x s t d e r) (sym is) (record { answer = h.answer; node = h.node; dictionary = h.dictionary })
 
 -- bytes that are taken while no block segments come in
-pub elsewhere : (d : List Entry) (n : ℕ) (t : declared.Transfer) (v bytes : List ℕ) → ((b : BlockStart) (k : ℕ) (over : Bool) → t ≡ declared.TheVariants.BlockDownload b k over → ⊥) → understood d n (shown_transfer t v) (request_in bytes) ≡ heard d n (shown_transfer t v) bytes
+pub elsewhere : (d : List Entry) (n : ℕ) (t : declared.Transfer) (v bytes : List ℕ) → ((r : Reception) → t ≡ declared.TheVariants.BlockDownload r → ⊥) → understood d n (shown_transfer t v) (request_in bytes) ≡ heard d n (shown_transfer t v) bytes
 elsewhere d n declared.TheVariants.Idle v bytes h = refl
-elsewhere d n (declared.TheVariants.Download m size u) v bytes h = refl
-elsewhere d n (declared.TheVariants.Upload m u k) v bytes h = refl
-elsewhere d n (declared.TheVariants.BlockDownload b k over) v bytes h = absurd (h b k over refl)
+elsewhere d n (declared.TheVariants.Download w u) v bytes h = refl
+elsewhere d n (declared.TheVariants.Upload r) v bytes h = refl
+elsewhere d n (declared.TheVariants.BlockDownload r) v bytes h = absurd (h r refl)
 elsewhere d n (declared.TheVariants.BlockEnd b) v bytes h = refl

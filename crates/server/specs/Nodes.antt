@@ -91,9 +91,9 @@ pub record Ticks (s t : State) (r : Option Frame) : Type 0 where
 -- the transfer of a node of the code, whose bytes are in its buffer
 abbrev pub shown_transfer : declared.Transfer → List ℕ → Transfer
 shown_transfer declared.TheVariants.Idle v = Idle
-shown_transfer (declared.TheVariants.Download m size u) v = Download m size u v
-shown_transfer (declared.TheVariants.Upload m u given) v = Upload m u (drop given v)
-shown_transfer (declared.TheVariants.BlockDownload b s over) v = BlockDownload b s over v
+shown_transfer (declared.TheVariants.Download w u) v = Download w u v
+shown_transfer (declared.TheVariants.Upload r) v = Upload r.multiplexor r.toggle (drop r.given v)
+shown_transfer (declared.TheVariants.BlockDownload r) v = BlockDownload r v
 shown_transfer (declared.TheVariants.BlockEnd b) v = BlockEnd b v
 
 -- the state that a node of the code stands for

@@ -59,12 +59,6 @@ impl Node {
     pub fn is_idle(&self) -> bool
         ensures { result ≡ is_idle (shown self.now).transfer }
     {
-        match self.transfer {
-            Transfer::Idle => true,
-            Transfer::Download { .. } => false,
-            Transfer::Upload { .. } => false,
-            Transfer::BlockDownload { .. } => false,
-            Transfer::BlockEnd { .. } => false,
-        }
+        matches!(self.transfer, Transfer::Idle)
     }
 }

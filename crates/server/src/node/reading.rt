@@ -5,6 +5,7 @@ ghost use Rattle.server.specs.Nodes.{Turns, shown};
 ghost use Rattle.server.specs.Steps.{announced, given as given-step, start_upload, next_segment, upload_segment};
 
 use super::Node;
+use crate::delivery::Delivery;
 use crate::reaction::Reaction;
 use crate::served::Served;
 use crate::transfer::Transfer;
@@ -51,9 +52,11 @@ impl Node {
         let size = Some(self.buffer.len() as u32);
         self.send(
             Transfer::Upload {
-                multiplexor,
-                toggle: Toggle::Zero,
-                given: 0,
+                delivery: Delivery {
+                    multiplexor,
+                    toggle: Toggle::Zero,
+                    given: 0,
+                },
             },
             Served::Answered,
             Answer::InitiateUpload {
@@ -67,42 +70,37 @@ impl Node {
     pub(super) fn upload_segment(&mut self, toggle: Toggle) -> Reaction
         ensures { Turns (upload_segment (shown self.old).transfer toggle) (shown self.old) (shown self.new) result }
     {
-        let Transfer::Upload {
-            multiplexor,
-            toggle: expected,
-            given,
-        } = self.transfer
-        else {
+        let Transfer::Upload { delivery } = self.transfer else {
             return self.unexpected();
         };
-        if toggle != expected {
-            return self.refuse(multiplexor, AbortCode::ToggleNotAlternated);
+        if toggle != delivery.toggle {
+            return self.refuse(delivery.multiplexor, AbortCode::ToggleNotAlternated);
         }
-        self.next_segment(multiplexor, toggle, given)
+        self.next_segment(delivery)
     }
 
     /// The next seven bytes of the value in the buffer, or the last ones, after which the node is idle.
-    fn next_segment(&mut self, multiplexor: Multiplexor, toggle: Toggle, given: usize) -> Reaction
-        ensures { Turns (next_segment multiplexor toggle (drop given (held self.old.buffer))) (shown self.old) (shown self.new) result }
+    fn next_segment(&mut self, delivery: Delivery) -> Reaction
+        ensures { Turns (next_segment delivery.multiplexor delivery.toggle (drop delivery.given (held self.old.buffer))) (shown self.old) (shown self.new) result }
     {
-        let rest = self.buffer.rest(given);
+        let toggle = delivery.toggle;
+        let rest = self.buffer.rest(delivery.given);
         let left = rest.len();
         let data = SegmentData::front(rest);
         if left <= 7 {
-            return self.send(
-                Transfer::Idle,
-                Served::Answered,
-                Answer::UploadSegment {
-                    toggle,
-                    data,
-                    last: true,
-                },
-            );
+            let segment = Answer::UploadSegment {
+                toggle,
+                data,
+                last: true,
+            };
+            return self.send(Transfer::Idle, Served::Answered, segment);
         }
         let next = Transfer::Upload {
-            multiplexor,
-            toggle: toggle.other(),
-            given: given + 7,
+            delivery: Delivery {
+                multiplexor: delivery.multiplexor,
+                toggle: toggle.other(),
+                given: delivery.given + 7,
+            },
         };
         let segment = Answer::UploadSegment {
             toggle,

@@ -6,6 +6,8 @@ ghost use Rattle.server.specs.Steps.{aborted as aborted-step, asked as asked-ste
 
 use super::Node;
 use crate::block_start::BlockStart;
+use crate::download_segment::DownloadSegment;
+use crate::download_start::DownloadStart;
 use crate::reaction::Reaction;
 use crate::served::Served;
 use crate::transfer::Transfer;
@@ -31,7 +33,7 @@ impl Node {
     fn take<D: Writable>(&mut self, dictionary: &mut D, frame: Frame) -> Reaction
         ensures { Does (taken-step (D.Readable.meaning dictionary.old) (shown self.old) frame) (shown self.old) (shown self.new) (D.Readable.meaning dictionary.old) (D.Readable.meaning dictionary.new) result }
     {
-        if frame.identifier.number() != Identifier::of_requests(self.number).number() {
+        if frame.identifier != Identifier::of_requests(self.number) {
             return self.ignore();
         }
         self.hear(dictionary, frame.bytes)
@@ -41,13 +43,8 @@ impl Node {
     fn hear<D: Writable>(&mut self, dictionary: &mut D, bytes: [u8; 8]) -> Reaction
         ensures { Does (heard (D.Readable.meaning dictionary.old) (shown self.old).block_size.number (shown self.old).transfer bytes) (shown self.old) (shown self.new) (D.Readable.meaning dictionary.old) (D.Readable.meaning dictionary.new) result }
     {
-        if let Transfer::BlockDownload {
-            start,
-            expected,
-            spoiled,
-        } = self.transfer
-        {
-            return self.asked_in_block(start, expected, spoiled, BlockRequest::from_bytes(bytes));
+        if let Transfer::BlockDownload { reception } = self.transfer {
+            return self.asked_in_block(reception, BlockRequest::from_bytes(bytes));
         }
         self.understood(dictionary, Request::from_bytes(bytes))
     }
@@ -72,7 +69,8 @@ impl Node {
                 transfer,
             } => self.start_download(dictionary, multiplexor, transfer),
             Request::DownloadSegment { toggle, data, last } => self.download_segment(
-                dictionary, toggle, data, last,
+                dictionary,
+                DownloadSegment { toggle, data, last },
             ),
             Request::InitiateUpload { multiplexor } => self.start_upload(dictionary, multiplexor),
             Request::UploadSegment { toggle } => self.upload_segment(toggle),
@@ -83,8 +81,7 @@ impl Node {
             } => self.start_block(
                 dictionary,
                 BlockStart {
-                    multiplexor,
-                    size,
+                    download: DownloadStart { multiplexor, size },
                     crc,
                 },
             ),

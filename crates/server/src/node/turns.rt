@@ -27,10 +27,10 @@ impl Node {
     {
         match self.transfer {
             Transfer::Idle => NOWHERE,
-            Transfer::Download { multiplexor, .. } => multiplexor,
-            Transfer::Upload { multiplexor, .. } => multiplexor,
-            Transfer::BlockDownload { start, .. } => start.multiplexor,
-            Transfer::BlockEnd { start } => start.multiplexor,
+            Transfer::Download { start, .. } => start.multiplexor,
+            Transfer::Upload { delivery } => delivery.multiplexor,
+            Transfer::BlockDownload { reception } => reception.start.download.multiplexor,
+            Transfer::BlockEnd { start } => start.download.multiplexor,
         }
     }
 

@@ -8,11 +8,13 @@ ghost use Rattle.server.specs.Nodes.{Turns, Does, shown};
 ghost use Rattle.server.specs.Steps.{start_download, differs as differs-from, completed, received, download_segment};
 
 use super::Node;
+use crate::download_segment::DownloadSegment;
+use crate::download_start::DownloadStart;
 use crate::reaction::Reaction;
 use crate::served::Served;
 use crate::transfer::Transfer;
 use dictionary::{Readable, Writable, start_verdict};
-use sdo::{Answer, SegmentData, Toggle};
+use sdo::{Answer, Toggle};
 use wire::{AbortCode, Multiplexor};
 
 /// How many bytes a value has at most.
@@ -37,31 +39,29 @@ impl Node {
                     Answer::InitiateDownload { multiplexor },
                 )
             }
-            sdo::Transfer::Segmented { size } => self.start_segments(dictionary, multiplexor, size),
+            sdo::Transfer::Segmented { size } => {
+                self.start_segments(dictionary, DownloadStart { multiplexor, size })
+            },
         }
     }
 
     /// The start of a write in segments: they are awaited, unless the dictionary has a verdict on the write already.
-    fn start_segments<D: Readable>(
-        &mut self,
-        dictionary: &D,
-        multiplexor: Multiplexor,
-        size: Option<u32>,
-    ) -> Reaction
-        ensures { Turns (start_download (D.Readable.meaning dictionary.now) multiplexor (Segmented size)) (shown self.old) (shown self.new) result }
+    fn start_segments<D: Readable>(&mut self, dictionary: &D, start: DownloadStart) -> Reaction
+        ensures { Turns (start_download (D.Readable.meaning dictionary.now) start.multiplexor (Segmented start.size)) (shown self.old) (shown self.new) result }
     {
-        match start_verdict(dictionary, multiplexor, size) {
-            Some(code) => self.refuse(multiplexor, code),
+        match start_verdict(dictionary, start.multiplexor, start.size) {
+            Some(code) => self.refuse(start.multiplexor, code),
             None => {
                 self.buffer.clear();
                 self.send(
                     Transfer::Download {
-                        multiplexor,
-                        size,
+                        start,
                         toggle: Toggle::Zero,
                     },
                     Served::Answered,
-                    Answer::InitiateDownload { multiplexor },
+                    Answer::InitiateDownload {
+                        multiplexor: start.multiplexor,
+                    },
                 )
             }
         }
@@ -71,49 +71,39 @@ impl Node {
     pub(super) fn download_segment<D: Writable>(
         &mut self,
         dictionary: &mut D,
-        toggle: Toggle,
-        data: SegmentData,
-        last: bool,
+        segment: DownloadSegment,
     ) -> Reaction
-        ensures { Does (download_segment (D.Readable.meaning dictionary.old) (shown self.old).transfer toggle (data_value «data») last) (shown self.old) (shown self.new) (D.Readable.meaning dictionary.old) (D.Readable.meaning dictionary.new) result }
+        ensures { Does (download_segment (D.Readable.meaning dictionary.old) (shown self.old).transfer segment.toggle (data_value segment.data) segment.last) (shown self.old) (shown self.new) (D.Readable.meaning dictionary.old) (D.Readable.meaning dictionary.new) result }
     {
-        let Transfer::Download {
-            multiplexor,
-            size,
-            toggle: expected,
-        } = self.transfer
-        else {
+        let Transfer::Download { start, toggle } = self.transfer else {
             return self.unexpected();
         };
-        if toggle != expected {
-            return self.refuse(multiplexor, AbortCode::ToggleNotAlternated);
+        if segment.toggle != toggle {
+            return self.refuse(start.multiplexor, AbortCode::ToggleNotAlternated);
         }
-        self.receive(dictionary, multiplexor, size, toggle, data, last)
+        self.receive(dictionary, start, segment)
     }
 
     /// The data of a segment: it is kept behind what is there, and behind the last segment the value is complete.
     fn receive<D: Writable>(
         &mut self,
         dictionary: &mut D,
-        multiplexor: Multiplexor,
-        size: Option<u32>,
-        toggle: Toggle,
-        data: SegmentData,
-        last: bool,
+        start: DownloadStart,
+        segment: DownloadSegment,
     ) -> Reaction
-        ensures { Does (received (D.Readable.meaning dictionary.old) multiplexor size toggle last (held self.old.buffer ++ data_value «data»)) (shown self.old) (shown self.new) (D.Readable.meaning dictionary.old) (D.Readable.meaning dictionary.new) result }
+        ensures { Does (received (D.Readable.meaning dictionary.old) start segment.toggle segment.last (held self.old.buffer ++ data_value segment.data)) (shown self.old) (shown self.new) (D.Readable.meaning dictionary.old) (D.Readable.meaning dictionary.new) result }
     {
-        if self.buffer.len() + data.value().len() > LONGEST {
-            return self.refuse(multiplexor, AbortCode::LengthTooHigh);
+        let toggle = segment.toggle;
+        if self.buffer.len() + segment.data.value().len() > LONGEST {
+            return self.refuse(start.multiplexor, AbortCode::LengthTooHigh);
         }
-        self.buffer.append(data.value());
+        self.buffer.append(segment.data.value());
         let answer = Answer::DownloadSegment { toggle };
-        if last {
-            return self.complete(dictionary, multiplexor, size, answer);
+        if segment.last {
+            return self.complete(dictionary, start, answer);
         }
         let next = Transfer::Download {
-            multiplexor,
-            size,
+            start,
             toggle: toggle.other(),
         };
         self.send(next, Served::Answered, answer)
@@ -123,16 +113,15 @@ impl Node {
     pub(super) fn complete<D: Writable>(
         &mut self,
         dictionary: &mut D,
-        multiplexor: Multiplexor,
-        size: Option<u32>,
+        start: DownloadStart,
         answer: Answer,
     ) -> Reaction
-        ensures { Does (completed (D.Readable.meaning dictionary.old) multiplexor size (held self.old.buffer) (shown_answer answer)) (shown self.old) (shown self.new) (D.Readable.meaning dictionary.old) (D.Readable.meaning dictionary.new) result }
+        ensures { Does (completed (D.Readable.meaning dictionary.old) start (held self.old.buffer) (shown_answer answer)) (shown self.old) (shown self.new) (D.Readable.meaning dictionary.old) (D.Readable.meaning dictionary.new) result }
     {
-        if differs(size, self.buffer.len()) {
-            return self.refuse(multiplexor, AbortCode::LengthMismatch);
+        if differs(start.size, self.buffer.len()) {
+            return self.refuse(start.multiplexor, AbortCode::LengthMismatch);
         }
-        self.commit(dictionary, multiplexor, answer)
+        self.commit(dictionary, start.multiplexor, answer)
     }
 }
 
@@ -140,8 +129,5 @@ impl Node {
 fn differs(size: Option<u32>, len: usize) -> bool
     ensures { result ≡ differs-from size len }
 {
-    match size {
-        Some(size) => size as usize != len,
-        None => false,
-    }
+    size.is_some_and(|size| size as usize != len)
 }

@@ -9,19 +9,19 @@ use Rattle.server.proofs.node.Node.next_segment.Goals as goal
 
 pub returns-then-left-le7 : goal.returns-then-left-le7
 returns-then-left-le7 c =
-    let t = c.args.toggle in
-    let v = drop c.args.given (held c.args.self.now.buffer) in
+    let t = c.args.delivery.toggle in
+    let v = drop c.args.delivery.given (held c.args.self.now.buffer) in
     let few : length v ≤ 7 = omega (arith, ap length c.rest-rest.ensures) in
-    turning (ap (λ x. answered Idle (answer.UploadSegment t x true)) (c.front-data.ensures ∙ ap (take 7) c.rest-rest.ensures) ∙ last_given c.args.multiplexor t v few) c.send.ensures
+    turning (ap (λ x. answered Idle (answer.UploadSegment t x true)) (c.front-data.ensures ∙ ap (take 7) c.rest-rest.ensures) ∙ last_given c.args.delivery.multiplexor t v few) c.send.ensures
 
 pub overflow_add-next : goal.overflow_add-next
 overflow_add-next c = let e = simp (length-drop, length-take) at (ap length c.rest-rest.ensures) in omega arith
 
 pub returns : goal.returns
 returns c =
-    let m = c.args.multiplexor in
-    let t = c.args.toggle in
-    let k = c.args.given in
+    let m = c.args.delivery.multiplexor in
+    let t = c.args.delivery.toggle in
+    let k = c.args.delivery.given in
     let b = held c.args.self.now.buffer in
     let v = drop k b in
     let w = data_value c.front-data.result in
