@@ -1,5 +1,5 @@
 -- What a dictionary's answer to a value copy tells of its verdict on the read, and that a value fits a buffer.
-use Rattle.std.proofs.Common.{◌≡◌, ℕ, ◌≤◌, Bool, true, false, cond, ltb, List, [], ◌∷◌, length, take, drop, Some, None, Ok, Err, Option, refl, ap, ◌∙◌, subst, arith, ltb-true}
+use Rattle.std.proofs.Common.{◌≡◌, ℕ, ◌≤◌, Bool, true, false, cond, ltb, List, [], ◌∷◌, length, take, drop, Some, None, Ok, Err, Option, Result, refl, ap, subst, arith, ltb-true}
 use lib.Seq.{take-append_seam}
 use Rattle.wire.specs.declared.multiplexor.Multiplexor.{Multiplexor}
 use Rattle.wire.specs.declared.abort_code.AbortCode.{AbortCode}
@@ -8,6 +8,9 @@ use Rattle.dictionary.specs.declared.refusal.CopyRefusal.{CopyRefusal}
 use Rattle.dictionary.specs.declared.refusal.CopyRefusal.TheVariants.{Verdict, ShortBuffer}
 use Rattle.dictionary.specs.Entries.{Entry, Lawful, entry_at}
 use Rattle.dictionary.specs.Verdicts.{read_verdict}
+use Rattle.std.specs.Result.{MatchResult, IsErrAnd}
+use Rattle.std.proofs.lemmas.Result.{err_from_is_err_and}
+use Rattle.server.specs.Buffers.{code_of}
 use Rattle.dictionary.specs.Questions.{value_of, value_at, copy_refusal, refuses_copy, copied_or, copied, overlaid, buffer_after}
 
 copied_none : (r : Option CopyRefusal) (n len : ℕ) → Ok n ≡ copied_or r len → (r ≡ None) × (n ≡ len)
@@ -50,16 +53,19 @@ refused_by : (w : Option AbortCode) (k len : ℕ) (c : AbortCode) → copy_refus
 refused_by None k len c e = absurd (never_verdict (ltb k len) c e)
 refused_by (Some x) k len c e = cc
 
-module _ (d : List Entry) (m : Multiplexor) where
-  -- a copy that was refused by a verdict is a refused read
-  pub read-refused : (k : ℕ) (x : CopyRefusal) (c : AbortCode) → x ≡ Verdict c → Err x ≡ copied d m k → read_verdict d m ≡ Some c
-  read-refused k x c is e =
-      refused_by (read_verdict d m) k (length (value_at d m)) c (copied_some (refuses_copy d m k) x (length (value_at d m)) e ∙ ap (λ y. Some y) is)
+-- the refusal behind the code of a copy that was refused
+pub coded : (r : Result ℕ CopyRefusal) (o : Result ℕ AbortCode) (c : AbortCode) → MatchResult r (λ n. o ≡ Ok n) (λ x. IsErrAnd o (λ y. y ≡ code_of x)) → o ≡ Err c → (x : CopyRefusal) × (r ≡ Err x) × (c ≡ code_of x)
+coded (Ok n) o c h e = let z : ◌≡◌ {A = ℕ} 0 1 = cc in absurd (omega arith)
+coded (Err x) o c h e = let p = err_from_is_err_and o h in let same : c ≡ code_of x = cc (p.1, p.2) in (x, refl, same)
 
-  pub never_short : (k : ℕ) (x : CopyRefusal) → x ≡ ShortBuffer → k ≡ 1029 → Lawful d → Err x ≡ copied d m k → ⊥
-  never_short k x is size law e =
-      fits_by (read_verdict d m) (length (value_at d m)) (short m d law)
-      (copied_some (refuses_copy d m 1029) x (length (value_at d m)) (subst (λ (n : ℕ). Err x ≡ copied d m n) size e) ∙ ap (λ y. Some y) is)
+module _ (d : List Entry) (m : Multiplexor) where
+  -- a copy to a buffer of 1,029 that was refused is a refused read
+  pub read-refused : (k : ℕ) (x : CopyRefusal) → k ≡ 1029 → Lawful d → Err x ≡ copied d m k → read_verdict d m ≡ Some (code_of x)
+  read-refused k (Verdict c) size law e =
+      refused_by (read_verdict d m) k (length (value_at d m)) c (copied_some (refuses_copy d m k) (Verdict c) (length (value_at d m)) e)
+  read-refused k ShortBuffer size law e =
+      absurd (fits_by (read_verdict d m) (length (value_at d m)) (short m d law)
+      (copied_some (refuses_copy d m 1029) ShortBuffer (length (value_at d m)) (subst (λ (n : ℕ). Err ShortBuffer ≡ copied d m n) size e)))
 
   module _ (buffer : List ℕ) (n : ℕ) (e : Ok n ≡ copied d m (length buffer)) where
     free : refuses_copy d m (length buffer) ≡ None

@@ -1,5 +1,5 @@
 -- Steps told in other words: by what a dictionary answered, and by what the buffer holds.
-use Rattle.std.proofs.Common.{◌≡◌, ℕ, ◌+◌, ◌<◌, ◌≤◌, Bool, true, false, cond, List, length, take, drop, Some, None, Ok, Err, Option, sym, refl, subst, arith, take_all, lt-ltb, eq-eqb}
+use Rattle.std.proofs.Common.{◌≡◌, ℕ, ◌+◌, ◌<◌, ◌≤◌, Bool, true, false, cond, List, length, take, drop, Some, None, Ok, Err, Option, sym, refl, ap, ◌∙◌, subst, arith, take_all, lt-ltb, eq-eqb}
 use Rattle.std.proofs.lemmas.Bool.{le-ltb, le-leb, lt-leb}
 use Rattle.wire.specs.declared.multiplexor.Multiplexor.{Multiplexor}
 use Rattle.wire.specs.declared.abort_code.AbortCode.{AbortCode}
@@ -19,23 +19,35 @@ use Rattle.server.specs.declared.reaction.Reaction.{Reaction}
 use Rattle.server.specs.declared.transfer.Transfer as declared
 use Rattle.server.specs.States.{State, Idle, Download, Upload}
 use Rattle.server.specs.Steps.{Step, Setting, refused, answered, announced, given, completed, received, next_segment, understood, heard, taken, step}
-use Rattle.server.specs.Nodes.{Turns, Does, Serves, dictionary_by, shown_transfer}
+use Rattle.server.specs.declared.node.Node.{Node}
+use Rattle.server.specs.Nodes.{Turns, Does, Serves, reaction, stepped, dictionary_by, shown, shown_transfer}
 
 left : (o : Option Setting) (d : List Entry) → o ≡ None → d ≡ dictionary_by o d
 left None d e = refl
 left (Some v) d e = let z : ◌≡◌ {A = ℕ} 0 1 = cc in absurd (omega arith)
 
-module _ {s t : State} {r : Reaction} where
-  -- a step that sets nothing leaves the dictionary
-  pub leaving : (p : Step) (d : List Entry) → Turns p s t r → Does p s t d d r
-  leaving p d h = record { answer = h.answer; node = h.node; dictionary = left p.set d h.unset }
-
+module _ {s t : Node} {r : Reaction} where
   -- the same step in other words
   pub turning : {p q : Step} → p ≡ q → Turns p s t r → Turns q s t r
   turning e h = subst (λ (x : Step). Turns x s t r) e h
 
-  pub doing : {p q : Step} {d f : List Entry} → p ≡ q → Does p s t d f r → Does q s t d f r
-  doing {d = d} {f = f} e h = subst (λ (x : Step). Does x s t d f r) e h
+  module _ {D : Type 0} {meaning : D → List Entry} where
+    -- a step that sets nothing leaves the dictionary
+    pub leaving : (p : List Entry → Step) (d : D) → Turns (p (meaning d)) s t r → Does meaning p s t d d r
+    leaving p d h = record { answer = h.answer; node = h.node; dictionary = left (p (meaning d)).set (meaning d) h.unset }
+
+    pub doing : {p q : List Entry → Step} {d e : D} → p (meaning d) ≡ q (meaning d) → Does meaning p s t d e r → Does meaning q s t d e r
+    doing {d = d} {e = e} same h =
+        record {
+          answer = h.answer ∙ ap (λ (x : Step). reaction s.number x) same;
+          node = h.node ∙ ap (λ (x : Step). stepped x (shown s)) same;
+          dictionary = h.dictionary ∙ ap (λ (x : Step). dictionary_by x.set (meaning d)) same;
+        }
+
+    -- a frame that waited
+    pub serving : {d e : D} (o : Option Frame) (f : Frame) → o ≡ Some f → Does meaning (λ x. taken x (shown s) f) s t d e r → Serves meaning o s t d e r
+    unfolding step
+    serving {d} {e} o f is h = subst (λ (x : Option Frame). Serves meaning x s t d e r) (sym is) (record { answer = h.answer; node = h.node; dictionary = h.dictionary })
 
 -- what a decision tells of the verdict
 pub refused_by : (w : Option AbortCode) (c : AbortCode) → Err c ≡ decided w → w ≡ Some c
@@ -76,11 +88,6 @@ module _ (d : List Entry) (w : DownloadStart) (t : Toggle) (last : Bool) (v : Li
 -- a frame with the node's identifier
 pub addressed : (d : List Entry) (s : State) (f : Frame) → f.identifier.number ≡ 0x600 + s.number.number → heard d s.block_size.number s.transfer f.bytes ≡ taken d s f
 addressed d s f own = rw (eq-eqb f.identifier.number (0x600 + s.number.number) own)
-
--- a frame that waited
-pub serving : {s t : State} {d e : List Entry} {r : Reaction} (o : Option Frame) (f : Frame) → o ≡ Some f → Does (taken d s f) s t d e r → Serves o s t d e r
-unfolding step
-serving {s} {t} {d} {e} {r} o f is h = subst (λ (x : Option Frame). Serves x s t d e r) (sym is) (record { answer = h.answer; node = h.node; dictionary = h.dictionary })
 
 -- bytes that are taken while no block segments come in
 pub elsewhere : (d : List Entry) (n : ℕ) (t : declared.Transfer) (v bytes : List ℕ) → ((r : Reception) → t ≡ declared.TheVariants.BlockDownload r → ⊥) → understood d n (shown_transfer t v) (request_in bytes) ≡ heard d n (shown_transfer t v) bytes

@@ -46,25 +46,29 @@ pub record Step : Type 0 where
 abbrev pub committed : Multiplexor → List ℕ → Answer → Step
 committed m v a = record { next = Idle; served = Committed; reply = Some a; set = Some (record { multiplexor = m; value = v }) }
 
+-- nothing is set
+abbrev pub turned : Transfer → Served → Option Answer → Step
+turned t r a = record { next = t; served = r; reply = a; set = None }
+
 -- an abort is sent: the node is idle
 abbrev pub refused : Multiplexor → AbortCode → Step
-refused m c = record { next = Idle; served = Aborted; reply = Some (answer.Abort m c); set = None }
+refused m c = turned Idle Aborted (Some (answer.Abort m c))
 
 -- an abort was heard: the node is idle and says nothing
 abbrev pub ended : Step
-ended = record { next = Idle; served = Aborted; reply = None; set = None }
+ended = turned Idle Aborted None
 
 abbrev pub answered : Transfer → Answer → Step
-answered t a = record { next = t; served = Answered; reply = Some a; set = None }
+answered t a = turned t Answered (Some a)
 
 abbrev pub dropped : Transfer → Step
-dropped t = record { next = t; served = Dropped; reply = None; set = None }
+dropped t = turned t Dropped None
 
 abbrev pub kept : Transfer → Step
-kept t = record { next = t; served = Kept; reply = None; set = None }
+kept t = turned t Kept None
 
 abbrev pub nothing : Transfer → Step
-nothing t = record { next = t; served = NothingWaited; reply = None; set = None }
+nothing t = turned t NothingWaited None
 
 -- a step, unless a verdict speaks against it
 abbrev pub unless : Option AbortCode → Multiplexor → Step → Step

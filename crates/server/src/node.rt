@@ -43,14 +43,14 @@ impl Node {
 
     /// The node's number.
     pub fn number(&self) -> NodeNumber
-        ensures { result ≡ (shown self.now).number }
+        ensures { result ≡ self.now.number }
     {
         self.number
     }
 
     /// How many values the node has set, modulo 65,536.
     pub fn commits(&self) -> u16
-        ensures { result ≡ (shown self.now).commits }
+        ensures { result ≡ self.now.commits }
     {
         self.commits
     }

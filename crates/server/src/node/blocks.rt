@@ -2,7 +2,6 @@
 ghost use Rattle.std.specs.Prelude.{◌≡◌, ◌++◌};
 ghost use Rattle.sdo.specs.Answers.{shown_answer};
 ghost use Rattle.sdo.specs.BlockRequests.{shown_block_request};
-ghost use Rattle.server.specs.Buffers.{held, full};
 ghost use Rattle.server.specs.Nodes.{Turns, Does, shown};
 ghost use Rattle.server.specs.States.{BlockDownload as BlockReceived, next_sub_block};
 ghost use Rattle.server.specs.Steps.{answered, dropped, block_awaited, start_block, ends as ends_at, keep as keep-step, pass_over, spoil as spoil-step, block_segment, asked_in_block, crc_differs, closed, block_end};
@@ -22,7 +21,7 @@ use wire::AbortCode;
 impl Node {
     /// The start of a block write: its segments are awaited, unless the dictionary has a verdict on the write already.
     pub(super) fn start_block<D: Readable>(&mut self, dictionary: &D, start: BlockStart) -> Reaction
-        ensures { Turns (start_block (D.Readable.meaning dictionary.now) (shown self.old).block_size.number start) (shown self.old) (shown self.new) result }
+        ensures { Turns (start_block (D.Readable.meaning dictionary.now) self.old.block_size.number start) self.old self.new result }
     {
         let download = start.download;
         match start_verdict(dictionary, download.multiplexor, download.size) {
@@ -36,7 +35,7 @@ impl Node {
 
     /// Awaits the first segment of a block write.
     fn await_block(&mut self, start: BlockStart) -> Reaction
-        ensures { Turns (block_awaited (shown self.old).block_size.number start (held self.old.buffer)) (shown self.old) (shown self.new) result }
+        ensures { Turns (block_awaited self.old.block_size.number start self.old.buffer) self.old self.new result }
     {
         let answer = Answer::InitiateBlockDownload {
             multiplexor: start.download.multiplexor,
@@ -48,7 +47,7 @@ impl Node {
 
     /// A message while block segments come in.
     pub(super) fn asked_in_block(&mut self, reception: Reception, request: BlockRequest) -> Reaction
-        ensures { Turns (asked_in_block (shown self.old).block_size.number reception (held self.old.buffer) (shown_block_request request)) (shown self.old) (shown self.new) result }
+        ensures { Turns (asked_in_block self.old.block_size.number reception self.old.buffer (shown_block_request request)) self.old self.new result }
     {
         match request {
             BlockRequest::Segment { last, number, data } => self.block_segment(
@@ -61,7 +60,7 @@ impl Node {
 
     /// A block segment: the one that is awaited is kept where it has room, any other is passed over.
     fn block_segment(&mut self, reception: Reception, segment: BlockSegment) -> Reaction
-        ensures { Turns (block_segment (shown self.old).block_size.number reception (held self.old.buffer) segment.last segment.number.number segment.data) (shown self.old) (shown self.new) result }
+        ensures { Turns (block_segment self.old.block_size.number reception self.old.buffer segment.last segment.number.number segment.data) self.old self.new result }
     {
         if reception.spoiled {
             return self.spoil(reception, segment);
@@ -78,7 +77,7 @@ impl Node {
 
     /// The segment that was awaited is kept: at the end of its sub-block its number is acknowledged.
     fn acknowledge(&mut self, start: BlockStart, segment: BlockSegment) -> Reaction
-        ensures { Turns (keep-step (shown self.old).block_size.number start segment.last segment.number.number (held self.old.buffer)) (shown self.old) (shown self.new) result }
+        ensures { Turns (keep-step self.old.block_size.number start segment.last segment.number.number self.old.buffer) self.old self.new result }
     {
         let number = segment.number.number();
         let answer = Answer::AcknowledgeBlock {
@@ -101,7 +100,7 @@ impl Node {
 
     /// Another segment is dropped: at the end of a sub-block the last number that was kept is acknowledged.
     fn pass_over(&mut self, reception: Reception, segment: BlockSegment) -> Reaction
-        ensures { Turns (pass_over (shown self.old).block_size.number reception (held self.old.buffer) segment.last segment.number.number) (shown self.old) (shown self.new) result }
+        ensures { Turns (pass_over self.old.block_size.number reception self.old.buffer segment.last segment.number.number) self.old self.new result }
     {
         if self.ends(segment) {
             let answer = Answer::AcknowledgeBlock {
@@ -115,7 +114,7 @@ impl Node {
 
     /// There was a segment too many: that is told at the end of the sub-block.
     fn spoil(&mut self, reception: Reception, segment: BlockSegment) -> Reaction
-        ensures { Turns (spoil-step (shown self.old).block_size.number reception (held self.old.buffer) segment.last segment.number.number) (shown self.old) (shown self.new) result }
+        ensures { Turns (spoil-step self.old.block_size.number reception self.old.buffer segment.last segment.number.number) self.old self.new result }
     {
         if self.ends(segment) {
             let multiplexor = reception.start.download.multiplexor;
@@ -129,7 +128,7 @@ impl Node {
 
     /// Goes on with a block write after a segment that is not kept.
     fn drop_segment(&mut self, reception: Reception) -> Reaction
-        ensures { Turns (dropped (BlockReceived reception (held self.old.buffer))) (shown self.old) (shown self.new) result }
+        ensures { Turns (dropped (BlockReceived reception self.old.buffer)) self.old self.new result }
     {
         let next = Transfer::BlockDownload { reception };
         self.go_on(next, Served::Dropped)
@@ -137,7 +136,7 @@ impl Node {
 
     /// Answers, and awaits the first segment of a sub-block.
     fn next_sub_block(&mut self, start: BlockStart, answer: Answer) -> Reaction
-        ensures { Turns (answered (BlockReceived (next_sub_block start) (held self.old.buffer)) (shown_answer answer)) (shown self.old) (shown self.new) result }
+        ensures { Turns (answered (BlockReceived (next_sub_block start) self.old.buffer) (shown_answer answer)) self.old self.new result }
     {
         let reception = Reception {
             start,
@@ -153,7 +152,7 @@ impl Node {
 
     /// Whether a segment ends its sub-block: it is the last of all or has the highest number.
     fn ends(&self, segment: BlockSegment) -> bool
-        ensures { result ≡ ends_at (shown self.now).block_size.number segment.last segment.number.number }
+        ensures { result ≡ ends_at self.now.block_size.number segment.last segment.number.number }
     {
         segment.last || segment.number.number() == self.block_size.number()
     }
@@ -165,7 +164,7 @@ impl Node {
         unused: UnusedBytes,
         crc: u16,
     ) -> Reaction
-        ensures { Does (block_end (D.Readable.meaning dictionary.old) (shown self.old).transfer unused.number crc) (shown self.old) (shown self.new) (D.Readable.meaning dictionary.old) (D.Readable.meaning dictionary.new) result }
+        ensures { Does D.Readable.meaning (λ d. block_end d (shown self.old).transfer unused.number crc) self.old self.new dictionary.old dictionary.new result }
     {
         let Transfer::BlockEnd { start } = self.transfer else {
             return self.unexpected();
@@ -176,7 +175,7 @@ impl Node {
 
     /// All bytes of a block write are in the buffer: their CRC is compared, then they are complete.
     fn close<D: Writable>(&mut self, dictionary: &mut D, start: BlockStart, crc: u16) -> Reaction
-        ensures { Does (closed (D.Readable.meaning dictionary.old) start crc (held self.old.buffer)) (shown self.old) (shown self.new) (D.Readable.meaning dictionary.old) (D.Readable.meaning dictionary.new) result }
+        ensures { Does D.Readable.meaning (λ d. closed d start crc self.old.buffer) self.old self.new dictionary.old dictionary.new result }
     {
         if is_wrong(start.crc, crc, self.buffer.held()) {
             return self.refuse(start.download.multiplexor, AbortCode::CrcError);

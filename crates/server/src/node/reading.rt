@@ -1,6 +1,5 @@
 //! Reads: at once or in segments (CiA 301, 7.2.4.3.6 and 7.2.4.3.7: SDO upload initiate and segment).
 ghost use Rattle.std.specs.Prelude.{drop};
-ghost use Rattle.server.specs.Buffers.{held};
 ghost use Rattle.server.specs.Nodes.{Turns, shown};
 ghost use Rattle.server.specs.Steps.{announced, given as given-step, start_upload, next_segment, upload_segment};
 
@@ -20,7 +19,7 @@ impl Node {
         dictionary: &D,
         multiplexor: Multiplexor,
     ) -> Reaction
-        ensures { Turns (start_upload (D.Readable.meaning dictionary.now) multiplexor) (shown self.old) (shown self.new) result }
+        ensures { Turns (start_upload (D.Readable.meaning dictionary.now) multiplexor) self.old self.new result }
     {
         match self.buffer.load(dictionary, multiplexor) {
             Ok(()) => self.give(multiplexor),
@@ -30,7 +29,7 @@ impl Node {
 
     /// The value in the buffer is given: up to four bytes in the answer, a longer one by segments.
     fn give(&mut self, multiplexor: Multiplexor) -> Reaction
-        ensures { Turns (given-step multiplexor (held self.old.buffer)) (shown self.old) (shown self.new) result }
+        ensures { Turns (given-step multiplexor self.old.buffer) self.old self.new result }
     {
         match ExpeditedData::new(self.buffer.held()) {
             Some(data) => self.send(
@@ -47,7 +46,7 @@ impl Node {
 
     /// The value in the buffer is announced, to be given by segments.
     fn give_segments(&mut self, multiplexor: Multiplexor) -> Reaction
-        ensures { Turns (announced multiplexor (held self.old.buffer)) (shown self.old) (shown self.new) result }
+        ensures { Turns (announced multiplexor self.old.buffer) self.old self.new result }
     {
         let size = Some(self.buffer.len() as u32);
         self.send(
@@ -68,7 +67,7 @@ impl Node {
 
     /// A segment of a read is asked for: its toggle is judged, then the segment is given.
     pub(super) fn upload_segment(&mut self, toggle: Toggle) -> Reaction
-        ensures { Turns (upload_segment (shown self.old).transfer toggle) (shown self.old) (shown self.new) result }
+        ensures { Turns (upload_segment (shown self.old).transfer toggle) self.old self.new result }
     {
         let Transfer::Upload { delivery } = self.transfer else {
             return self.unexpected();
@@ -81,7 +80,7 @@ impl Node {
 
     /// The next seven bytes of the value in the buffer, or the last ones, after which the node is idle.
     fn next_segment(&mut self, delivery: Delivery) -> Reaction
-        ensures { Turns (next_segment delivery.multiplexor delivery.toggle (drop delivery.given (held self.old.buffer))) (shown self.old) (shown self.new) result }
+        ensures { Turns (next_segment delivery.multiplexor delivery.toggle (drop delivery.given self.old.buffer)) self.old self.new result }
     {
         let toggle = delivery.toggle;
         let rest = self.buffer.rest(delivery.given);

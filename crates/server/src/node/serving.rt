@@ -18,7 +18,7 @@ use wire::{Frame, Identifier};
 impl Node {
     /// Serves a frame that was taken from the line, or none where none waited, over the node's dictionary.
     pub fn serve<D: Writable>(&mut self, dictionary: &mut D, taken: Option<Frame>) -> Reaction
-        ensures { Serves taken (shown self.old) (shown self.new) (D.Readable.meaning dictionary.old) (D.Readable.meaning dictionary.new) result }
+        ensures { Serves D.Readable.meaning taken self.old self.new dictionary.old dictionary.new result }
     {
         match taken {
             Some(frame) => self.take(dictionary, frame),
@@ -31,7 +31,7 @@ impl Node {
 
     /// Takes a frame: one with another identifier than the node's is dropped.
     fn take<D: Writable>(&mut self, dictionary: &mut D, frame: Frame) -> Reaction
-        ensures { Does (taken-step (D.Readable.meaning dictionary.old) (shown self.old) frame) (shown self.old) (shown self.new) (D.Readable.meaning dictionary.old) (D.Readable.meaning dictionary.new) result }
+        ensures { Does D.Readable.meaning (λ d. taken-step d (shown self.old) frame) self.old self.new dictionary.old dictionary.new result }
     {
         if frame.identifier != Identifier::of_requests(self.number) {
             return self.ignore();
@@ -41,7 +41,7 @@ impl Node {
 
     /// Reads a frame's bytes: one way while block segments come in, another elsewhere.
     fn hear<D: Writable>(&mut self, dictionary: &mut D, bytes: [u8; 8]) -> Reaction
-        ensures { Does (heard (D.Readable.meaning dictionary.old) (shown self.old).block_size.number (shown self.old).transfer bytes) (shown self.old) (shown self.new) (D.Readable.meaning dictionary.old) (D.Readable.meaning dictionary.new) result }
+        ensures { Does D.Readable.meaning (λ d. heard d self.old.block_size.number (shown self.old).transfer bytes) self.old self.new dictionary.old dictionary.new result }
     {
         if let Transfer::BlockDownload { reception } = self.transfer {
             return self.asked_in_block(reception, BlockRequest::from_bytes(bytes));
@@ -51,7 +51,7 @@ impl Node {
 
     /// A request in any state but while block segments come in, or none that is known.
     fn understood<D: Writable>(&mut self, dictionary: &mut D, request: Option<Request>) -> Reaction
-        ensures { Does (understood-step (D.Readable.meaning dictionary.old) (shown self.old).block_size.number (shown self.old).transfer (option_map shown_request request)) (shown self.old) (shown self.new) (D.Readable.meaning dictionary.old) (D.Readable.meaning dictionary.new) result }
+        ensures { Does D.Readable.meaning (λ d. understood-step d self.old.block_size.number (shown self.old).transfer (option_map shown_request request)) self.old self.new dictionary.old dictionary.new result }
     {
         match request {
             Some(request) => self.asked(dictionary, request),
@@ -61,7 +61,7 @@ impl Node {
 
     /// A request in any state but while block segments come in: a start replaces a transfer.
     fn asked<D: Writable>(&mut self, dictionary: &mut D, request: Request) -> Reaction
-        ensures { Does (asked-step (D.Readable.meaning dictionary.old) (shown self.old).block_size.number (shown self.old).transfer (shown_request request)) (shown self.old) (shown self.new) (D.Readable.meaning dictionary.old) (D.Readable.meaning dictionary.new) result }
+        ensures { Does D.Readable.meaning (λ d. asked-step d self.old.block_size.number (shown self.old).transfer (shown_request request)) self.old self.new dictionary.old dictionary.new result }
     {
         match request {
             Request::InitiateDownload {
@@ -92,7 +92,7 @@ impl Node {
 
     /// An abort ends a transfer; without one it is dropped.
     fn aborted(&mut self) -> Reaction
-        ensures { Turns (aborted-step (shown self.old).transfer) (shown self.old) (shown self.new) result }
+        ensures { Turns (aborted-step (shown self.old).transfer) self.old self.new result }
     {
         if self.is_idle() {
             self.ignore()

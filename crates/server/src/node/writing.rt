@@ -3,7 +3,6 @@ ghost use Rattle.std.specs.Prelude.{◌≡◌, ◌++◌};
 ghost use Rattle.sdo.specs.Answers.{shown_answer};
 ghost use Rattle.sdo.specs.Segments.{data_value};
 ghost use Rattle.sdo.specs.Transfers.{Segmented, shown_transfer as shown-coming};
-ghost use Rattle.server.specs.Buffers.{held};
 ghost use Rattle.server.specs.Nodes.{Turns, Does, shown};
 ghost use Rattle.server.specs.Steps.{start_download, differs as differs-from, completed, received, download_segment};
 
@@ -28,7 +27,7 @@ impl Node {
         multiplexor: Multiplexor,
         transfer: sdo::Transfer,
     ) -> Reaction
-        ensures { Does (start_download (D.Readable.meaning dictionary.old) multiplexor (shown-coming transfer)) (shown self.old) (shown self.new) (D.Readable.meaning dictionary.old) (D.Readable.meaning dictionary.new) result }
+        ensures { Does D.Readable.meaning (λ d. start_download d multiplexor (shown-coming transfer)) self.old self.new dictionary.old dictionary.new result }
     {
         match transfer {
             sdo::Transfer::Expedited { data } => {
@@ -47,7 +46,7 @@ impl Node {
 
     /// The start of a write in segments: they are awaited, unless the dictionary has a verdict on the write already.
     fn start_segments<D: Readable>(&mut self, dictionary: &D, start: DownloadStart) -> Reaction
-        ensures { Turns (start_download (D.Readable.meaning dictionary.now) start.multiplexor (Segmented start.size)) (shown self.old) (shown self.new) result }
+        ensures { Turns (start_download (D.Readable.meaning dictionary.now) start.multiplexor (Segmented start.size)) self.old self.new result }
     {
         match start_verdict(dictionary, start.multiplexor, start.size) {
             Some(code) => self.refuse(start.multiplexor, code),
@@ -73,7 +72,7 @@ impl Node {
         dictionary: &mut D,
         segment: DownloadSegment,
     ) -> Reaction
-        ensures { Does (download_segment (D.Readable.meaning dictionary.old) (shown self.old).transfer segment.toggle (data_value segment.data) segment.last) (shown self.old) (shown self.new) (D.Readable.meaning dictionary.old) (D.Readable.meaning dictionary.new) result }
+        ensures { Does D.Readable.meaning (λ d. download_segment d (shown self.old).transfer segment.toggle (data_value segment.data) segment.last) self.old self.new dictionary.old dictionary.new result }
     {
         let Transfer::Download { start, toggle } = self.transfer else {
             return self.unexpected();
@@ -91,7 +90,7 @@ impl Node {
         start: DownloadStart,
         segment: DownloadSegment,
     ) -> Reaction
-        ensures { Does (received (D.Readable.meaning dictionary.old) start segment.toggle segment.last (held self.old.buffer ++ data_value segment.data)) (shown self.old) (shown self.new) (D.Readable.meaning dictionary.old) (D.Readable.meaning dictionary.new) result }
+        ensures { Does D.Readable.meaning (λ d. received d start segment.toggle segment.last (self.old.buffer ++ data_value segment.data)) self.old self.new dictionary.old dictionary.new result }
     {
         let toggle = segment.toggle;
         if self.buffer.len() + segment.data.value().len() > LONGEST {
@@ -116,7 +115,7 @@ impl Node {
         start: DownloadStart,
         answer: Answer,
     ) -> Reaction
-        ensures { Does (completed (D.Readable.meaning dictionary.old) start (held self.old.buffer) (shown_answer answer)) (shown self.old) (shown self.new) (D.Readable.meaning dictionary.old) (D.Readable.meaning dictionary.new) result }
+        ensures { Does D.Readable.meaning (λ d. completed d start self.old.buffer (shown_answer answer)) self.old self.new dictionary.old dictionary.new result }
     {
         if differs(start.size, self.buffer.len()) {
             return self.refuse(start.multiplexor, AbortCode::LengthMismatch);
