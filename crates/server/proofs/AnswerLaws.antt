@@ -26,7 +26,7 @@ elsewhere : (d : List Entry) (n : ℕ) (t : Transfer) (bytes : List ℕ) → in_
 elsewhere d n Idle bytes h = refl
 elsewhere d n (Download z u v) bytes h = refl
 elsewhere d n (Upload m u v) bytes h = refl
-elsewhere d n (BlockDownload r v) bytes h = let z : ◌≡◌ {A = ℕ} 0 1 = cc in absurd (omega arith)
+elsewhere d n (BlockDownload r v) bytes h = cc
 elsewhere d n (BlockEnd b v) bytes h = refl
 
 asks : (d : List Entry) (s : State) (f : Frame) (q : Option Request) → Asks s f q → step d s (Some f) ≡ understood d s.block_size.number s.transfer q
@@ -37,12 +37,12 @@ asks d s f q h =
 -- a start does not look at the transfer
 replaces : (d : List Entry) (n : ℕ) (t : Transfer) (q : Request) → is_start q ≡ true → asked d n t q ≡ asked d n Idle q
 replaces d n t (request.InitiateDownload m how) h = refl
-replaces d n t (request.DownloadSegment u w last) h = let z : ◌≡◌ {A = ℕ} 0 1 = cc in absurd (omega arith)
+replaces d n t (request.DownloadSegment u w last) h = cc
 replaces d n t (request.InitiateUpload m) h = refl
-replaces d n t (request.UploadSegment u) h = let z : ◌≡◌ {A = ℕ} 0 1 = cc in absurd (omega arith)
+replaces d n t (request.UploadSegment u) h = cc
 replaces d n t (request.InitiateBlockDownload m c size) h = refl
-replaces d n t (request.EndBlockDownload unused k) h = let z : ◌≡◌ {A = ℕ} 0 1 = cc in absurd (omega arith)
-replaces d n t (request.Abort m c) h = let z : ◌≡◌ {A = ℕ} 0 1 = cc in absurd (omega arith)
+replaces d n t (request.EndBlockDownload unused k) h = cc
+replaces d n t (request.Abort m c) h = cc
 
 pub starts_replace : StartsReplace
 starts_replace d s f q h start =
@@ -52,18 +52,18 @@ starts_replace d s f q h start =
 -- an abort
 dropped_idle : (t : Transfer) → is_idle t ≡ true → cond (is_idle t) (dropped t) ended ≡ dropped Idle
 dropped_idle Idle h = refl
-dropped_idle (Download z u v) h = let z : ◌≡◌ {A = ℕ} 0 1 = cc in absurd (omega arith)
-dropped_idle (Upload m u v) h = let z : ◌≡◌ {A = ℕ} 0 1 = cc in absurd (omega arith)
-dropped_idle (BlockDownload r v) h = let z : ◌≡◌ {A = ℕ} 0 1 = cc in absurd (omega arith)
-dropped_idle (BlockEnd b v) h = let z : ◌≡◌ {A = ℕ} 0 1 = cc in absurd (omega arith)
+dropped_idle (Download z u v) h = cc
+dropped_idle (Upload m u v) h = cc
+dropped_idle (BlockDownload r v) h = cc
+dropped_idle (BlockEnd b v) h = cc
 
 aborts : (d : List Entry) (n : ℕ) (t : Transfer) (q : Request) → is_abort q ≡ true → asked d n t q ≡ cond (is_idle t) (dropped t) ended
-aborts d n t (request.InitiateDownload m how) h = let z : ◌≡◌ {A = ℕ} 0 1 = cc in absurd (omega arith)
-aborts d n t (request.DownloadSegment u w last) h = let z : ◌≡◌ {A = ℕ} 0 1 = cc in absurd (omega arith)
-aborts d n t (request.InitiateUpload m) h = let z : ◌≡◌ {A = ℕ} 0 1 = cc in absurd (omega arith)
-aborts d n t (request.UploadSegment u) h = let z : ◌≡◌ {A = ℕ} 0 1 = cc in absurd (omega arith)
-aborts d n t (request.InitiateBlockDownload m c size) h = let z : ◌≡◌ {A = ℕ} 0 1 = cc in absurd (omega arith)
-aborts d n t (request.EndBlockDownload unused k) h = let z : ◌≡◌ {A = ℕ} 0 1 = cc in absurd (omega arith)
+aborts d n t (request.InitiateDownload m how) h = cc
+aborts d n t (request.DownloadSegment u w last) h = cc
+aborts d n t (request.InitiateUpload m) h = cc
+aborts d n t (request.UploadSegment u) h = cc
+aborts d n t (request.InitiateBlockDownload m c size) h = cc
+aborts d n t (request.EndBlockDownload unused k) h = cc
 aborts d n t (request.Abort m c) h = refl
 
 pub aborts_heard : AbortsHeard
@@ -73,25 +73,25 @@ aborts_heard d s f q h abort =
 
 -- what is neither a start nor an abort nor awaited
 others : (d : List Entry) (n : ℕ) (t : Transfer) (q : Request) → is_start q ≡ false → is_abort q ≡ false → awaits t q ≡ false → asked d n t q ≡ refused (named t) UnknownCommand
-others d n t (request.InitiateDownload m how) h k a = let z : ◌≡◌ {A = ℕ} 0 1 = cc in absurd (omega arith)
+others d n t (request.InitiateDownload m how) h k a = cc
 others d n Idle (request.DownloadSegment u w last) h k a = refl
-others d n (Download z x v) (request.DownloadSegment u w last) h k a = let z : ◌≡◌ {A = ℕ} 0 1 = cc in absurd (omega arith)
+others d n (Download z x v) (request.DownloadSegment u w last) h k a = cc
 others d n (Upload m x v) (request.DownloadSegment u w last) h k a = refl
 others d n (BlockDownload r v) (request.DownloadSegment u w last) h k a = refl
 others d n (BlockEnd b v) (request.DownloadSegment u w last) h k a = refl
-others d n t (request.InitiateUpload m) h k a = let z : ◌≡◌ {A = ℕ} 0 1 = cc in absurd (omega arith)
+others d n t (request.InitiateUpload m) h k a = cc
 others d n Idle (request.UploadSegment u) h k a = refl
 others d n (Download z x v) (request.UploadSegment u) h k a = refl
-others d n (Upload m x v) (request.UploadSegment u) h k a = let z : ◌≡◌ {A = ℕ} 0 1 = cc in absurd (omega arith)
+others d n (Upload m x v) (request.UploadSegment u) h k a = cc
 others d n (BlockDownload r v) (request.UploadSegment u) h k a = refl
 others d n (BlockEnd b v) (request.UploadSegment u) h k a = refl
-others d n t (request.InitiateBlockDownload m c size) h k a = let z : ◌≡◌ {A = ℕ} 0 1 = cc in absurd (omega arith)
+others d n t (request.InitiateBlockDownload m c size) h k a = cc
 others d n Idle (request.EndBlockDownload unused x) h k a = refl
 others d n (Download z y v) (request.EndBlockDownload unused x) h k a = refl
 others d n (Upload m y v) (request.EndBlockDownload unused x) h k a = refl
 others d n (BlockDownload r v) (request.EndBlockDownload unused x) h k a = refl
-others d n (BlockEnd b v) (request.EndBlockDownload unused x) h k a = let z : ◌≡◌ {A = ℕ} 0 1 = cc in absurd (omega arith)
-others d n t (request.Abort m c) h k a = let z : ◌≡◌ {A = ℕ} 0 1 = cc in absurd (omega arith)
+others d n (BlockEnd b v) (request.EndBlockDownload unused x) h k a = cc
+others d n t (request.Abort m c) h k a = cc
 
 pub others_refused : OthersRefused
 others_refused d s f q h start abort await = asks d s f (Some q) h ∙ others d s.block_size.number s.transfer q start abort await
@@ -101,12 +101,12 @@ unknown_refused d s f h = asks d s f None h
 
 -- in block reception
 in_block-aborted : (d : List Entry) (n : ℕ) (t : Transfer) (bytes : List ℕ) → in_block t ≡ true → b 0 bytes ≡ 0x80 → heard d n t bytes ≡ ended
-in_block-aborted d n Idle bytes h e = let z : ◌≡◌ {A = ℕ} 0 1 = cc in absurd (omega arith)
-in_block-aborted d n (Download z u v) bytes h e = let z : ◌≡◌ {A = ℕ} 0 1 = cc in absurd (omega arith)
-in_block-aborted d n (Upload m u v) bytes h e = let z : ◌≡◌ {A = ℕ} 0 1 = cc in absurd (omega arith)
+in_block-aborted d n Idle bytes h e = cc
+in_block-aborted d n (Download z u v) bytes h e = cc
+in_block-aborted d n (Upload m u v) bytes h e = cc
 in_block-aborted d n (BlockDownload r v) bytes h e =
     ap (λ x. asked_in_block n r v (cond x (block.Abort (multiplexor_in bytes) (abort_code_in bytes)) (block_segment_in bytes))) (eq-eqb (b 0 bytes) 0x80 e)
-in_block-aborted d n (BlockEnd w v) bytes h e = let z : ◌≡◌ {A = ℕ} 0 1 = cc in absurd (omega arith)
+in_block-aborted d n (BlockEnd w v) bytes h e = cc
 
 pub block_aborted : BlockAborted
 unfolding step
@@ -129,9 +129,9 @@ module _ (n : ℕ) (r : Reception) (v : List ℕ) (last : Bool) (k : ℕ) where
       (which w (ends n last k) (inl refl) (inl refl)))
 
 bytes_stay : (d : List Entry) (n : ℕ) (t : Transfer) (bytes : List ℕ) (w : BlockStart) → in_block t ≡ true → begun_by t ≡ Some w → (b 0 bytes ≡ 0x80 → ⊥) → Stays w (heard d n t bytes)
-bytes_stay d n Idle bytes w h g e = let z : ◌≡◌ {A = ℕ} 0 1 = cc in absurd (omega arith)
-bytes_stay d n (Download z u v) bytes w h g e = let z : ◌≡◌ {A = ℕ} 0 1 = cc in absurd (omega arith)
-bytes_stay d n (Upload m u v) bytes w h g e = let z : ◌≡◌ {A = ℕ} 0 1 = cc in absurd (omega arith)
+bytes_stay d n Idle bytes w h g e = cc
+bytes_stay d n (Download z u v) bytes w h g e = cc
+bytes_stay d n (Upload m u v) bytes w h g e = cc
 bytes_stay d n (BlockDownload r v) bytes w h g e =
     let same : r.start ≡ w = cc in
     let stays = segment_stays n r v (bit7 (b 0 bytes)) (b 0 bytes % 128) (last_seven bytes) in
@@ -139,7 +139,7 @@ bytes_stay d n (BlockDownload r v) bytes w h g e =
     let said : block_segment_in bytes ≡ block_request_in bytes =
     sym (ap (λ y. cond y (block.Abort (multiplexor_in bytes) (abort_code_in bytes)) (block_segment_in bytes)) (ne_eqb (b 0 bytes) 0x80 e)) in
     subst (λ (c : BlockStart). Stays c (heard d n (BlockDownload r v) bytes)) same (subst P said stays)
-bytes_stay d n (BlockEnd a v) bytes w h g e = let z : ◌≡◌ {A = ℕ} 0 1 = cc in absurd (omega arith)
+bytes_stay d n (BlockEnd a v) bytes w h g e = cc
 
 kept-begun : (t : Transfer) (w : BlockStart) → begun_by t ≡ Some w → Stays w (dropped t)
 kept-begun t w h = inl h

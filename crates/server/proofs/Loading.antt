@@ -15,15 +15,15 @@ use Rattle.dictionary.specs.Questions.{value_of, value_at, copy_refusal, refuses
 
 copied_none : (r : Option CopyRefusal) (n len : ℕ) → Ok n ≡ copied_or r len → (r ≡ None) × (n ≡ len)
 copied_none None n len e = (refl, cc)
-copied_none (Some x) n len e = let z : ◌≡◌ {A = ℕ} 0 1 = cc in absurd (omega arith)
+copied_none (Some x) n len e = cc
 
 copied_some : (r : Option CopyRefusal) (x : CopyRefusal) (len : ℕ) → Err x ≡ copied_or r len → r ≡ Some x
-copied_some None x len e = let z : ◌≡◌ {A = ℕ} 0 1 = cc in absurd (omega arith)
+copied_some None x len e = cc
 copied_some (Some y) x len e = cc
 
 allowed : (w : Option AbortCode) (k len : ℕ) → copy_refusal w k len ≡ None → w ≡ None
 allowed None k len e = refl
-allowed (Some c) k len e = let z : ◌≡◌ {A = ℕ} 0 1 = cc in absurd (omega arith)
+allowed (Some c) k len e = cc
 
 -- every value of a dictionary has at most 1,024 bytes
 short_by : (t : Bool) (e : Entry) (o : Option Entry) → length e.value ≤ 1024 → length (value_of o) ≤ 1024 → length (value_of (cond t (Some e) o)) ≤ 1024
@@ -39,15 +39,15 @@ short m (e ∷ es) law =
 -- so that a buffer of 1,029 is never too short for one
 roomy : (t : Bool) (n : ℕ) → n ≤ 1024 → ltb 1029 n ≡ t → cond {A = Option CopyRefusal} t (Some ShortBuffer) None ≡ Some ShortBuffer → ⊥
 roomy true n h long e = omega (arith, ltb-true 1029 n long)
-roomy false n h long e = let z : ◌≡◌ {A = ℕ} 0 1 = cc in omega arith
+roomy false n h long e = cc
 
 fits_by : (w : Option AbortCode) (n : ℕ) → n ≤ 1024 → copy_refusal w 1029 n ≡ Some ShortBuffer → ⊥
 fits_by None n h e = roomy (ltb 1029 n) n h refl e
-fits_by (Some c) n h e = let z : ◌≡◌ {A = ℕ} 0 1 = cc in omega arith
+fits_by (Some c) n h e = cc
 
 never_verdict : (t : Bool) (c : AbortCode) → cond {A = Option CopyRefusal} t (Some ShortBuffer) None ≡ Some (Verdict c) → ⊥
-never_verdict true c e = let z : ◌≡◌ {A = ℕ} 0 1 = cc in omega arith
-never_verdict false c e = let z : ◌≡◌ {A = ℕ} 0 1 = cc in omega arith
+never_verdict true c e = cc
+never_verdict false c e = cc
 
 refused_by : (w : Option AbortCode) (k len : ℕ) (c : AbortCode) → copy_refusal w k len ≡ Some (Verdict c) → w ≡ Some c
 refused_by None k len c e = absurd (never_verdict (ltb k len) c e)
@@ -55,7 +55,7 @@ refused_by (Some x) k len c e = cc
 
 -- the refusal behind the code of a copy that was refused
 pub coded : (r : Result ℕ CopyRefusal) (o : Result ℕ AbortCode) (c : AbortCode) → MatchResult r (λ n. o ≡ Ok n) (λ x. IsErrAnd o (λ y. y ≡ code_of x)) → o ≡ Err c → (x : CopyRefusal) × (r ≡ Err x) × (c ≡ code_of x)
-coded (Ok n) o c h e = let z : ◌≡◌ {A = ℕ} 0 1 = cc in absurd (omega arith)
+coded (Ok n) o c h e = cc
 coded (Err x) o c h e = let p = err_from_is_err_and o h in let same : c ≡ code_of x = cc (p.1, p.2) in (x, refl, same)
 
 module _ (d : List Entry) (m : Multiplexor) where

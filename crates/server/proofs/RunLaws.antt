@@ -44,7 +44,7 @@ record Fair (w : Notes) (q : Request) (p : Step) : Type 0 where
   whole : (x : Setting) → p.set ≡ Some x → x ≡ carried w q
 
 unset : (x : Setting) (P : Type 0) → ◌≡◌ {A = Option Setting} None (Some x) → P
-unset x P e = let z : ◌≡◌ {A = ℕ} 0 1 = cc in absurd (omega arith)
+unset x P e = cc
 
 module _ (w : Notes) (q : Request) where
   either : (x : Bool) {p r : Step} → Fair w q p → Fair w q r → Fair w q (cond x p r)
@@ -260,10 +260,10 @@ run_good (e ∷ es) x h = run_good es (happened e x) (event_good e x h)
 
 starts : (t : Transfer) → is_idle t ≡ true → Agrees Nothing t
 starts Idle e = refl
-starts (Download z u v) e = let z : ◌≡◌ {A = ℕ} 0 1 = cc in absurd (omega arith)
+starts (Download z u v) e = cc
 starts (Upload m u v) e = refl
-starts (BlockDownload r v) e = let z : ◌≡◌ {A = ℕ} 0 1 = cc in absurd (omega arith)
-starts (BlockEnd b v) e = let z : ◌≡◌ {A = ℕ} 0 1 = cc in absurd (omega arith)
+starts (BlockDownload r v) e = cc
+starts (BlockEnd b v) e = cc
 
 pub values_carried : ValuesCarried
 values_carried d s idle es f x h =

@@ -24,7 +24,7 @@ use Rattle.server.specs.Nodes.{Turns, Does, Serves, reaction, stepped, dictionar
 
 left : (o : Option Setting) (d : List Entry) → o ≡ None → d ≡ dictionary_by o d
 left None d e = refl
-left (Some v) d e = let z : ◌≡◌ {A = ℕ} 0 1 = cc in absurd (omega arith)
+left (Some v) d e = cc
 
 module _ {s t : Node} {r : Reaction} where
   -- the same step in other words
@@ -51,16 +51,16 @@ module _ {s t : Node} {r : Reaction} where
 
 -- what a decision tells of the verdict
 pub refused_by : (w : Option AbortCode) (c : AbortCode) → Err c ≡ decided w → w ≡ Some c
-refused_by None c e = let z : ◌≡◌ {A = ℕ} 0 1 = cc in absurd (omega arith)
+refused_by None c e = cc
 refused_by (Some x) c e = cc
 
 pub allowed_by : (w : Option AbortCode) → Ok tt ≡ decided w → w ≡ None
 allowed_by None e = refl
-allowed_by (Some x) e = let z : ◌≡◌ {A = ℕ} 0 1 = cc in absurd (omega arith)
+allowed_by (Some x) e = cc
 
 -- a value that does not fit the answer is given by segments
 by_segments : (b : Bool) (m : Multiplexor) (v : List ℕ) → None ≡ cond b (Some v) None → announced m v ≡ cond b (answered Idle (answer.InitiateUpload m (coming.Expedited v))) (announced m v)
-by_segments true m v e = let z : ◌≡◌ {A = ℕ} 0 1 = cc in absurd (omega arith)
+by_segments true m v e = cc
 by_segments false m v e = refl
 
 pub segments-given : (m : Multiplexor) (v : List ℕ) → None ≡ expedited_of v → announced m v ≡ given m v

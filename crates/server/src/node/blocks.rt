@@ -9,6 +9,7 @@ ghost use Rattle.server.specs.Steps.{answered, dropped, block_awaited, start_blo
 use super::Node;
 use crate::block_segment::BlockSegment;
 use crate::block_start::BlockStart;
+use crate::download_start::DownloadStart;
 use crate::reaction::Reaction;
 use crate::reception::Reception;
 use crate::served::Served;
@@ -23,14 +24,12 @@ impl Node {
     pub(super) fn start_block<D: Readable>(&mut self, dictionary: &D, start: BlockStart) -> Reaction
         ensures { Turns (start_block (D.Readable.meaning dictionary.now) self.old.block_size.number start) self.old self.new result }
     {
-        let download = start.download;
-        match start_verdict(dictionary, download.multiplexor, download.size) {
-            Some(code) => self.refuse(download.multiplexor, code),
-            None => {
-                self.buffer.clear();
-                self.await_block(start)
-            }
+        let DownloadStart { multiplexor, size } = start.download;
+        if let Some(code) = start_verdict(dictionary, multiplexor, size) {
+            return self.refuse(multiplexor, code);
         }
+        self.buffer.clear();
+        self.await_block(start)
     }
 
     /// Awaits the first segment of a block write.

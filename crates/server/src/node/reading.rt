@@ -21,10 +21,10 @@ impl Node {
     ) -> Reaction
         ensures { Turns (start_upload (D.Readable.meaning dictionary.now) multiplexor) self.old self.new result }
     {
-        match self.buffer.load(dictionary, multiplexor) {
-            Ok(()) => self.give(multiplexor),
-            Err(code) => self.refuse(multiplexor, code),
+        if let Err(code) = self.buffer.load(dictionary, multiplexor) {
+            return self.refuse(multiplexor, code);
         }
+        self.give(multiplexor)
     }
 
     /// The value in the buffer is given: up to four bytes in the answer, a longer one by segments.

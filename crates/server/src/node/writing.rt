@@ -48,22 +48,18 @@ impl Node {
     fn start_segments<D: Readable>(&mut self, dictionary: &D, start: DownloadStart) -> Reaction
         ensures { Turns (start_download (D.Readable.meaning dictionary.now) start.multiplexor (Segmented start.size)) self.old self.new result }
     {
-        match start_verdict(dictionary, start.multiplexor, start.size) {
-            Some(code) => self.refuse(start.multiplexor, code),
-            None => {
-                self.buffer.clear();
-                self.send(
-                    Transfer::Download {
-                        start,
-                        toggle: Toggle::Zero,
-                    },
-                    Served::Answered,
-                    Answer::InitiateDownload {
-                        multiplexor: start.multiplexor,
-                    },
-                )
-            }
+        if let Some(code) = start_verdict(dictionary, start.multiplexor, start.size) {
+            return self.refuse(start.multiplexor, code);
         }
+        self.buffer.clear();
+        let next = Transfer::Download {
+            start,
+            toggle: Toggle::Zero,
+        };
+        let answer = Answer::InitiateDownload {
+            multiplexor: start.multiplexor,
+        };
+        self.send(next, Served::Answered, answer)
     }
 
     /// A segment of a write: its toggle is judged, then its data is taken.
