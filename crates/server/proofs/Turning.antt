@@ -1,5 +1,5 @@
 -- Steps told in other words: by what a dictionary answered, and by what the buffer holds.
-use Rattle.std.proofs.Common.{◌≡◌, ℕ, ◌+◌, ◌<◌, ◌≤◌, Bool, true, false, cond, List, length, take, drop, Some, None, Ok, Err, Option, sym, refl, ap, ◌∙◌, subst, arith, take_all, lt-ltb, eq-eqb}
+use Rattle.std.proofs.Common.{◌≡◌, ℕ, ◌+◌, ◌<◌, ◌≤◌, Bool, true, false, cond, List, length, take, drop, Some, None, Ok, Err, Option, sym, refl, ap, ◌∙◌, subst, take_all, lt-ltb, eq-eqb}
 use Rattle.std.proofs.lemmas.Bool.{le-ltb, le-leb, lt-leb}
 use Rattle.wire.specs.declared.multiplexor.Multiplexor.{Multiplexor}
 use Rattle.wire.specs.declared.abort_code.AbortCode.{AbortCode}
@@ -63,8 +63,8 @@ by_segments : (b : Bool) (m : Multiplexor) (v : List ℕ) → None ≡ cond b (S
 by_segments true m v e = cc
 by_segments false m v e = refl
 
-pub segments-given : (m : Multiplexor) (v : List ℕ) → None ≡ expedited_of v → announced m v ≡ given m v
-segments-given m v e = by_segments (fits_expedited v) m v e
+pub segments_given : (m : Multiplexor) (v : List ℕ) → None ≡ expedited_of v → announced m v ≡ given m v
+segments_given m v e = by_segments (fits_expedited v) m v e
 
 -- the last segment of a read, and one before it
 module _ (m : Multiplexor) (t : Toggle) (v : List ℕ) where

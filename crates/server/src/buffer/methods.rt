@@ -96,7 +96,9 @@ impl Buffer {
         ensures answer { result ≡ decided (read_verdict (D.Readable.meaning dictionary.now) multiplexor) }
         ensures after { read_verdict (D.Readable.meaning dictionary.now) multiplexor ≡ None → self.new ≡ value_at (D.Readable.meaning dictionary.now) multiplexor }
     {
-        let len = dictionary.copy_value(multiplexor, &mut self.bytes).map_err(code)?;
+        let len = dictionary
+            .copy_value(multiplexor, &mut self.bytes)
+            .map_err(code)?;
         self.len = len;
         Ok(())
     }

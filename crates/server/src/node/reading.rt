@@ -28,6 +28,7 @@ impl Node {
     }
 
     /// The value in the buffer is given: up to four bytes in the answer, a longer one by segments.
+    #[tactic(auto, using(crate::proofs::Turning::segments_given))]
     fn give(&mut self, multiplexor: Multiplexor) -> Reaction
         ensures { Turns (given-step multiplexor self.old.buffer) self.old self.new result }
     {

@@ -17,6 +17,7 @@ use wire::{Frame, Identifier};
 
 impl Node {
     /// Serves a frame that was taken from the line, or none where none waited, over the node's dictionary.
+    #[tactic(auto, using(crate::proofs::Turning::serving), unfolding(crate::specs::Steps::step))]
     pub fn serve<D: Writable>(&mut self, dictionary: &mut D, taken: Option<Frame>) -> Reaction
         ensures { Serves D.Readable.meaning taken self.old self.new dictionary.old dictionary.new result }
     {

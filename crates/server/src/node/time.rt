@@ -15,8 +15,8 @@ use wire::{AbortCode, Frame};
 const PATIENCE: u8 = 25;
 
 impl Node {
-    #[tactic(auto, unfolding(crate::specs::Nodes::tick))]
     /// Lets a tick pass: the abort with which a node ends its transfer that took no frame for 25 ticks.
+    #[tactic(auto, unfolding(crate::specs::Nodes::tick))]
     pub fn tick(&mut self) -> Option<Frame>
         ensures { Ticks self.old self.new result }
     {
