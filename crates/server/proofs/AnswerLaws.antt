@@ -13,8 +13,9 @@ use Rattle.server.specs.declared.block_start.BlockStart.{BlockStart}
 use Rattle.server.specs.declared.reception.Reception.{Reception}
 use Rattle.server.specs.Buffers.{full}
 use Rattle.server.specs.States.{State, Transfer, Idle, Download, Upload, BlockDownload, BlockEnd, is_idle, named}
-use Rattle.server.specs.Steps.{Step, ended, dropped, refused, ends, spoil, block_segment, asked, understood, asked_in_block, heard, step}
+use Rattle.server.specs.Steps.{ended, dropped, refused, ends, spoil, block_segment, asked, understood, asked_in_block, heard, step}
 use Rattle.server.specs.Laws.{Asks, ForeignDropped, in_block, is_start, is_abort, awaits, idled, StartsReplace, AbortsHeard, OthersRefused, UnknownRefused, BlockAborted, begun_by, Stays, BlockStays}
+use Rattle.server.proofs.Choosing.{chosen}
 use Rattle.server.proofs.Turning.{addressed}
 
 pub foreign_dropped : ForeignDropped
@@ -113,20 +114,16 @@ unfolding step
 block_aborted d s f own h e = sym (addressed d s f own) ∙ in_block-aborted d s.block_size.number s.transfer f.bytes h e
 
 -- a segment leaves the node in its block write
-which : (w : BlockStart) (x : Bool) {p q : Step} → Stays w p → Stays w q → Stays w (cond x p q)
-which w true h g = h
-which w false h g = g
-
 module _ (n : ℕ) (r : Reception) (v : List ℕ) (last : Bool) (k : ℕ) where
   spoil_stays : Stays r.start (spoil n r v last k)
-  spoil_stays = which r.start (ends n last k) (inr refl) (inl refl)
+  spoil_stays = chosen (Stays r.start) (ends n last k) (inr refl) (inl refl)
 
   segment_stays : (x : List ℕ) → Stays r.start (block_segment n r v last k x)
   segment_stays x =
       let w = r.start in
-      which w r.spoiled spoil_stays
-      (which w (eqb k r.expected) (which w (full v) spoil_stays (which w last (inl refl) (which w (eqb k n) (inl refl) (inl refl))))
-      (which w (ends n last k) (inl refl) (inl refl)))
+      chosen (Stays w) r.spoiled spoil_stays
+      (chosen (Stays w) (eqb k r.expected) (chosen (Stays w) (full v) spoil_stays (chosen (Stays w) last (inl refl) (chosen (Stays w) (eqb k n) (inl refl) (inl refl))))
+      (chosen (Stays w) (ends n last k) (inl refl) (inl refl)))
 
 bytes_stay : (d : List Entry) (n : ℕ) (t : Transfer) (bytes : List ℕ) (w : BlockStart) → in_block t ≡ true → begun_by t ≡ Some w → (b 0 bytes ≡ 0x80 → ⊥) → Stays w (heard d n t bytes)
 bytes_stay d n Idle bytes w h g e = cc
@@ -147,5 +144,5 @@ kept-begun t w h = inl h
 pub block_stays : BlockStays
 unfolding step
 block_stays d s f w h g e =
-    which w (eqb f.identifier.number (request_identifier s.number).number)
+    chosen (Stays w) (eqb f.identifier.number (request_identifier s.number).number)
     (bytes_stay d s.block_size.number s.transfer f.bytes w h g e) (kept-begun s.transfer w g)

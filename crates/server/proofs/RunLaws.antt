@@ -25,10 +25,11 @@ use Rattle.server.specs.declared.served.Served.{Served}
 use Rattle.server.specs.declared.served.Served.TheVariants.{Aborted, Dropped}
 use Rattle.server.specs.Buffers.{full}
 use Rattle.server.specs.States.{State, Transfer, Idle, Download, Upload, BlockDownload, BlockEnd, is_idle, named}
-use Rattle.server.specs.Steps.{Step, Setting, refused, ended, answered, dropped, unless, commit, differs, completed, download_segment, crc_differs, upload_segment, block_end, asked, understood, ends, keep, pass_over, spoil, asked_in_block, heard, step}
+use Rattle.server.specs.Steps.{Step, Setting, refused, ended, answered, dropped, commit, differs, completed, download_segment, crc_differs, upload_segment, block_end, asked, understood, ends, keep, pass_over, spoil, asked_in_block, heard, step}
 use Rattle.server.specs.Nodes.{timed_out, waited, tick}
 use Rattle.server.specs.Runs.{Notes, Nothing, Segments, Block, noted, noted_at, to, told, after_request, after_known, acknowledged, after_block, notes_after, notes_by, Scene, Event, Serve, happened, run, carried, Completes, ValuesCarried}
 use Rattle.server.specs.Runs as runs
+use Rattle.server.proofs.Choosing.{chosen, judged}
 
 -- the notes agree with a transfer
 abbrev Agrees : Notes → Transfer → Type 0
@@ -47,26 +48,18 @@ unset : (x : Setting) (P : Type 0) → ◌≡◌ {A = Option Setting} None (Some
 unset x P e = cc
 
 module _ (w : Notes) (q : Request) where
-  either : (x : Bool) {p r : Step} → Fair w q p → Fair w q r → Fair w q (cond x p r)
-  either true h k = h
-  either false h k = k
-
   refuses : (m : Multiplexor) (c : AbortCode) → Fair w q (refused m c)
   refuses m c = record { agrees = refl; whole = λ x e. unset x _ e }
-
-  judged : (o : Option AbortCode) (m : Multiplexor) {p : Step} → Fair w q p → Fair w q (unless o m p)
-  judged None m h = h
-  judged (Some c) m h = refuses m c
 
   answers : (t : Transfer) (a : Answer) → Agrees (after_request w q) t → Fair w q (answered t a)
   answers t a h = record { agrees = h; whole = λ x e. unset x _ e }
 
   commits : (d : List Entry) (m : Multiplexor) (v : List ℕ) (a : Answer) → to m v ≡ carried w q → Fair w q (commit d m v a)
   commits d m v a h =
-      judged (write_verdict d m v) m (record { agrees = refl; whole = λ x e. let same : to m v ≡ x = cc in sym same ∙ h })
+      judged (Fair w q) (write_verdict d m v) m (refuses m) (record { agrees = refl; whole = λ x e. let same : to m v ≡ x = cc in sym same ∙ h })
 
   completes : (d : List Entry) (z : DownloadStart) (v : List ℕ) (a : Answer) → to z.multiplexor v ≡ carried w q → Fair w q (completed d z v a)
-  completes d z v a h = either (differs z.size (length v)) (refuses _ _) (commits d z.multiplexor v a h)
+  completes d z v a h = chosen (Fair w q) (differs z.size (length v)) (refuses _ _) (commits d z.multiplexor v a h)
 
 module _ (d : List Entry) where
   download_fair : (w : Notes) (t : Transfer) (u : Toggle) (x : List ℕ) (last : Bool) → Agrees w t → Fair w (request.DownloadSegment u x last) (download_segment d t u x last)
@@ -74,9 +67,9 @@ module _ (d : List Entry) where
   download_fair w (Download z y v) u x last h =
       let q = request.DownloadSegment u x last in
       let whole : to z.multiplexor (v ++ x) ≡ to (noted_at w) (noted w ++ x) = ap (λ (k : Notes). to (noted_at k) (noted k ++ x)) (sym h) in
-      either w q (same_toggle u y)
-      (either w q (ltb 1024 (length (v ++ x))) (refuses w q _ _)
-      (either w q last (completes w q d z (v ++ x) (answer.DownloadSegment u) whole) (answers w q _ (answer.DownloadSegment u) (ap (λ (k : Notes). Segments (noted_at k) (noted k ++ x)) h))))
+      chosen (Fair w q) (same_toggle u y)
+      (chosen (Fair w q) (ltb 1024 (length (v ++ x))) (refuses w q _ _)
+      (chosen (Fair w q) last (completes w q d z (v ++ x) (answer.DownloadSegment u) whole) (answers w q _ (answer.DownloadSegment u) (ap (λ (k : Notes). Segments (noted_at k) (noted k ++ x)) h))))
       (refuses w q _ _)
   download_fair w (Upload m y v) u x last h = refuses w _ _ _
   download_fair w (BlockDownload r v) u x last h = refuses w _ _ _
@@ -87,7 +80,7 @@ module _ (d : List Entry) where
   upload_fair w (Download z y v) u = refuses w _ _ _
   upload_fair w (Upload m y v) u =
       let q = request.UploadSegment u in
-      either w q (same_toggle u y) (either w q (leb (length v) 7) (answers w q _ _ refl) (answers w q _ _ refl)) (refuses w q _ _)
+      chosen (Fair w q) (same_toggle u y) (chosen (Fair w q) (leb (length v) 7) (answers w q _ _ refl) (answers w q _ _ refl)) (refuses w q _ _)
   upload_fair w (BlockDownload r v) u = refuses w _ _ _
   upload_fair w (BlockEnd b v) u = refuses w _ _ _
 
@@ -99,23 +92,23 @@ module _ (d : List Entry) where
   end_fair w (BlockEnd b v) i k h =
       let q = request.EndBlockDownload i k in
       let x = take (length v - i) v in
-      either w q (crc_differs b.crc k x) (refuses w q _ _)
+      chosen (Fair w q) (crc_differs b.crc k x) (refuses w q _ _)
       (completes w q d b.download x answer.EndBlockDownload (ap (λ (y : Notes). to (noted_at y) (take (length (noted y) - i) (noted y))) (sym h)))
 
   abort_fair : (w : Notes) (t : Transfer) (q : Request) → Agrees w t → Fair w q (cond (is_idle t) (dropped t) ended)
   abort_fair w t q h =
-      either w q (is_idle t) (record { agrees = h; whole = λ x e. unset x _ e }) (record { agrees = refl; whole = λ x e. unset x _ e })
+      chosen (Fair w q) (is_idle t) (record { agrees = h; whole = λ x e. unset x _ e }) (record { agrees = refl; whole = λ x e. unset x _ e })
 
   -- what a node does with a request
   asked_fair : (n : ℕ) (w : Notes) (t : Transfer) (q : Request) → Agrees w t → Fair w q (asked d n t q)
   asked_fair n w t (request.InitiateDownload m (coming.Expedited v)) h = commits w (request.InitiateDownload m (coming.Expedited v)) d m v (answer.InitiateDownload m) refl
-  asked_fair n w t (request.InitiateDownload m (coming.Segmented size)) h = judged w _ (start_verdict d m size) m (answers w _ _ _ refl)
+  asked_fair n w t (request.InitiateDownload m (coming.Segmented size)) h = judged (Fair w _) (start_verdict d m size) m (refuses w _ m) (answers w _ _ _ refl)
   asked_fair n w t (request.DownloadSegment u x last) h = download_fair w t u x last h
   asked_fair n w t (request.InitiateUpload m) h =
       let q = request.InitiateUpload m in
-      judged w q (read_verdict d m) m (either w q (fits_expedited (value_at d m)) (answers w q _ _ refl) (answers w q _ _ refl))
+      judged (Fair w q) (read_verdict d m) m (refuses w q m) (chosen (Fair w q) (fits_expedited (value_at d m)) (answers w q _ _ refl) (answers w q _ _ refl))
   asked_fair n w t (request.UploadSegment u) h = upload_fair w t u
-  asked_fair n w t (request.InitiateBlockDownload m c size) h = judged w _ (start_verdict d m size) m (answers w _ _ _ (omega arith, refl))
+  asked_fair n w t (request.InitiateBlockDownload m c size) h = judged (Fair w _) (start_verdict d m size) m (refuses w _ m) (answers w _ _ _ (omega arith, refl))
   asked_fair n w t (request.EndBlockDownload i k) h = end_fair w t i k h
   asked_fair n w t (request.Abort m c) h = abort_fair w t (request.Abort m c) h
 
@@ -124,10 +117,6 @@ record Keeps (m : Multiplexor) (s : ℕ) (v : List ℕ) (q : BlockRequest) (p : 
   agrees : Agrees (after_block m s v p.served p.reply q) p.next
   unset : p.set ≡ None
 
-split : {m : Multiplexor} {s : ℕ} {v : List ℕ} (q : BlockRequest) (x : Bool) {p r : Step} → Keeps m s v q p → Keeps m s v q r → Keeps m s v q (cond x p r)
-split q true h k = h
-split q false h k = k
-
 -- the awaited segment is kept: what is acknowledged is its own number
 keeps : (n : ℕ) (b : BlockStart) (s : ℕ) (v : List ℕ) (last : Bool) (k : ℕ) (x : List ℕ) → k ≡ s → Keeps b.download.multiplexor s v (block.Segment last k x) (keep n b last k (v ++ x))
 keeps n b s v true k x e =
@@ -135,7 +124,7 @@ keeps n b s v true k x e =
     record { agrees = ap (λ y. cond y (Segments m (v ++ x)) (Block m 1 v)) (eq-eqb k s e); unset = refl }
 keeps n b s v false k x e =
     let m = b.download.multiplexor in
-    split (block.Segment false k x) (eqb k n)
+    chosen (Keeps m s v (block.Segment false k x)) (eqb k n)
     (record { agrees = (omega arith, ap (λ y. cond y (Block m 1 (v ++ x)) (Block m 1 v)) (eq-eqb k s e)); unset = refl })
     (record { agrees = (omega arith, ap (λ j. Block m (j + 1) (v ++ x)) (sym e)); unset = refl })
 
@@ -152,20 +141,20 @@ module _ (n : ℕ) (r : Reception) (v : List ℕ) (some : 1 ≤ r.expected) wher
     it = block.Segment last k x
 
     spoils : Keeps m r.expected v it (spoil n r v last k)
-    spoils = split it (ends n last k) (record { agrees = refl; unset = refl }) (record { agrees = (some, refl); unset = refl })
+    spoils = chosen (Keeps m r.expected v it) (ends n last k) (record { agrees = refl; unset = refl }) (record { agrees = (some, refl); unset = refl })
 
     passes : Keeps m r.expected v it (pass_over n r v last k)
     passes =
-        split it (ends n last k)
+        chosen (Keeps m r.expected v it) (ends n last k)
         (record { agrees = (omega arith, ap (λ y. cond y (cond last (Segments m (v ++ x)) (Block m 1 (v ++ x))) (Block m 1 v)) behind); unset = refl })
         (record { agrees = (some, refl); unset = refl })
 
     sorted : (y : Bool) → eqb k r.expected ≡ y → Keeps m r.expected v it (cond y (cond (full v) (spoil n r v last k) (keep n r.start last k (v ++ x))) (pass_over n r v last k))
-    sorted true e = split it (full v) spoils (keeps n r.start r.expected v last k x (eqb-true k r.expected e))
+    sorted true e = chosen (Keeps m r.expected v it) (full v) spoils (keeps n r.start r.expected v last k x (eqb-true k r.expected e))
     sorted false e = passes
 
   block_fair : (q : BlockRequest) → Keeps m r.expected v q (asked_in_block n r v q)
-  block_fair (block.Segment last k x) = split (it last k x) r.spoiled (spoils last k x) (sorted last k x (eqb k r.expected) refl)
+  block_fair (block.Segment last k x) = chosen (Keeps m r.expected v (it last k x)) r.spoiled (spoils last k x) (sorted last k x (eqb k r.expected) refl)
   block_fair (block.Abort i c) = record { agrees = refl; unset = refl }
 
 -- after a frame the notes agree again, and a value that is set is the one that the frame completes
@@ -225,14 +214,10 @@ same-notes (Block m s v) bytes = block_dropped m s v (block_request_in bytes)
 foreign_fair : (w : Notes) (t : Transfer) (bytes : List ℕ) → Agrees w t → Follows w bytes (dropped t)
 foreign_fair w t bytes h = record { agrees = subst (λ (k : Notes). Agrees k t) (sym (same-notes w bytes)) h; whole = λ x z. unset x _ z }
 
-which : (w : Notes) (bytes : List ℕ) (x : Bool) {p r : Step} → Follows w bytes p → Follows w bytes r → Follows w bytes (cond x p r)
-which w bytes true h k = h
-which w bytes false h k = k
-
 step_fair : (d : List Entry) (s : State) (w : Notes) (f : Frame) → Agrees w s.transfer → Follows w f.bytes (step d s (Some f))
 unfolding step
 step_fair d s w f h =
-    which w f.bytes (eqb f.identifier.number (request_identifier s.number).number)
+    chosen (Follows w f.bytes) (eqb f.identifier.number (request_identifier s.number).number)
     (heard_fair d s.block_size.number w s.transfer f.bytes h) (foreign_fair w s.transfer f.bytes h)
 
 -- a tick leaves the notes, or ends the transfer

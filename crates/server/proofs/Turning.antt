@@ -22,10 +22,6 @@ use Rattle.server.specs.Steps.{Step, Setting, refused, answered, announced, give
 use Rattle.server.specs.declared.node.Node.{Node}
 use Rattle.server.specs.Nodes.{Turns, Does, Serves, reaction, stepped, dictionary_by, shown, shown_transfer}
 
-left : (o : Option Setting) (d : List Entry) → o ≡ None → d ≡ dictionary_by o d
-left None d e = refl
-left (Some v) d e = cc
-
 module _ {s t : Node} {r : Reaction} where
   -- the same step in other words
   pub turning : {p q : Step} → p ≡ q → Turns p s t r → Turns q s t r
@@ -34,7 +30,7 @@ module _ {s t : Node} {r : Reaction} where
   module _ {D : Type 0} {meaning : D → List Entry} where
     -- a step that sets nothing leaves the dictionary
     pub leaving : (p : List Entry → Step) (d : D) → Turns (p (meaning d)) s t r → Does meaning p s t d d r
-    leaving p d h = record { answer = h.answer; node = h.node; dictionary = left (p (meaning d)).set (meaning d) h.unset }
+    leaving p d h = record { answer = h.answer; node = h.node; dictionary = sym (ap (λ (o : Option Setting). dictionary_by o (meaning d)) h.unset) }
 
     pub doing : {p q : List Entry → Step} {d e : D} → p (meaning d) ≡ q (meaning d) → Does meaning p s t d e r → Does meaning q s t d e r
     doing {d = d} {e = e} same h =

@@ -123,7 +123,7 @@ pub record Asks (s : State) (f : Frame) (q : Option Request) : Type 0 where
 
 -- a node without its transfer
 abbrev pub idled : State → State
-idled s = record { number = s.number; block_size = s.block_size; transfer = Idle; ticks = s.ticks; commits = s.commits }
+idled s = record s { transfer = Idle }
 
 -- a start goes as at an idle node: it replaces a transfer
 abbrev pub StartsReplace : Type 0

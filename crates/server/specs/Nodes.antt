@@ -30,7 +30,7 @@ commits_by (Some v) n = (n + 1) % 65536
 
 -- the node after a frame: any frame that is taken restarts its time
 abbrev pub stepped : Step → State → State
-stepped p s = record { number = s.number; block_size = s.block_size; transfer = p.next; ticks = 0; commits = commits_by p.set s.commits }
+stepped p s = record s { transfer = p.next; ticks = 0; commits = commits_by p.set s.commits }
 
 abbrev pub state_after : Option Frame → Step → State → State
 state_after None p s = s
@@ -46,16 +46,10 @@ pub record Tick : Type 0 where
   pub reply : Option Answer
 
 abbrev pub timed_out : State → Tick
-timed_out s = record {
-  next = record { number = s.number; block_size = s.block_size; transfer = Idle; ticks = 0; commits = s.commits };
-  reply = Some (answer.Abort (named s.transfer) TimedOut);
-}
+timed_out s = record { next = record s { transfer = Idle; ticks = 0 }; reply = Some (answer.Abort (named s.transfer) TimedOut) }
 
 abbrev pub waited : State → Tick
-waited s = record {
-  next = record { number = s.number; block_size = s.block_size; transfer = s.transfer; ticks = s.ticks + 1; commits = s.commits };
-  reply = None;
-}
+waited s = record { next = record s { ticks = s.ticks + 1 }; reply = None }
 
 -- the 25th tick since a frame was taken ends a transfer
 unfoldable pub tick : State → Tick

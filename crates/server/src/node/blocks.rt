@@ -187,8 +187,5 @@ impl Node {
 fn is_wrong(offer: CrcOffer, crc: u16, bytes: &[u8]) -> bool
     ensures { result ≡ crc_differs offer crc bytes.now }
 {
-    match offer {
-        CrcOffer::Offered => crc != checksum(bytes),
-        CrcOffer::NotOffered => false,
-    }
+    offer == CrcOffer::Offered && crc != checksum(bytes)
 }

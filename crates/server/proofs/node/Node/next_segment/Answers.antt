@@ -1,4 +1,4 @@
-use Rattle.std.proofs.Common.{◌+◌, ◌<◌, ◌≤◌, true, false, length, take, drop, sym, ap, ◌∙◌, arith, length-drop, length-take, drop-drop}
+use Rattle.std.proofs.Common.{◌+◌, ◌<◌, ◌≤◌, true, false, length, take, drop, sym, ap, ◌∙◌, arith, length-drop, drop-drop}
 use Rattle.sdo.specs.Answers as answer
 use Rattle.sdo.specs.Segments.{data_value, other}
 use Rattle.server.specs.States.{Idle, Upload}
@@ -14,7 +14,7 @@ returns-then-left-le7 c =
     turning (ap (λ x. answered Idle (answer.UploadSegment t x true)) (c.front-data.ensures ∙ ap (take 7) c.rest-rest.ensures.value) ∙ last_given c.args.delivery.multiplexor t v few) c.send.ensures
 
 pub overflow_add-next : goal.overflow_add-next
-overflow_add-next c = let e = simp (length-drop, length-take) at (ap length c.rest-rest.ensures.value) in omega arith
+overflow_add-next c = let e = simp length-drop at (ap length c.rest-rest.ensures.value) in omega arith
 
 pub returns : goal.returns
 returns c =
