@@ -1,6 +1,5 @@
 -- What a dictionary's answer to a value copy tells of its verdict on the read, and that a value fits a buffer.
-use Rattle.std.proofs.Common.{◌≡◌, ℕ, ◌≤◌, Bool, true, false, cond, ltb, List, [], ◌∷◌, length, take, drop, Some, None, Ok, Err, Option, Result, refl, ap, subst, arith, ltb-true}
-use lib.Seq.{take-append_seam}
+use Rattle.std.proofs.Common.{◌≡◌, ℕ, ◌≤◌, Bool, true, false, cond, ltb, List, [], ◌∷◌, length, Some, None, Ok, Err, Option, Result, refl, subst, arith, ltb-true}
 use Rattle.wire.specs.declared.multiplexor.Multiplexor.{Multiplexor}
 use Rattle.wire.specs.declared.abort_code.AbortCode.{AbortCode}
 use Rattle.wire.specs.Multiplexors.{same}
@@ -11,19 +10,11 @@ use Rattle.dictionary.specs.Verdicts.{read_verdict}
 use Rattle.std.specs.Result.{MatchResult, IsErrAnd}
 use Rattle.std.proofs.lemmas.Result.{err_from_is_err_and}
 use Rattle.server.specs.Buffers.{code_of}
-use Rattle.dictionary.specs.Questions.{value_of, value_at, copy_refusal, refuses_copy, copied_or, copied, overlaid, buffer_after}
-
-copied_none : (r : Option CopyRefusal) (n len : ℕ) → Ok n ≡ copied_or r len → (r ≡ None) × (n ≡ len)
-copied_none None n len e = (refl, cc)
-copied_none (Some x) n len e = cc
+use Rattle.dictionary.specs.Questions.{value_of, value_at, copy_refusal, refuses_copy, copied_or, copied}
 
 copied_some : (r : Option CopyRefusal) (x : CopyRefusal) (len : ℕ) → Err x ≡ copied_or r len → r ≡ Some x
 copied_some None x len e = cc
 copied_some (Some y) x len e = cc
-
-allowed : (w : Option AbortCode) (k len : ℕ) → copy_refusal w k len ≡ None → w ≡ None
-allowed None k len e = refl
-allowed (Some c) k len e = cc
 
 -- every value of a dictionary has at most 1,024 bytes
 short_by : (t : Bool) (e : Entry) (o : Option Entry) → length e.value ≤ 1024 → length (value_of o) ≤ 1024 → length (value_of (cond t (Some e) o)) ≤ 1024
@@ -66,18 +57,3 @@ module _ (d : List Entry) (m : Multiplexor) where
   read-refused k ShortBuffer size law e =
       absurd (fits_by (read_verdict d m) (length (value_at d m)) (short m d law)
       (copied_some (refuses_copy d m 1029) ShortBuffer (length (value_at d m)) (subst (λ (n : ℕ). Err ShortBuffer ≡ copied d m n) size e)))
-
-  module _ (buffer : List ℕ) (n : ℕ) (e : Ok n ≡ copied d m (length buffer)) where
-    free : refuses_copy d m (length buffer) ≡ None
-    free = (copied_none (refuses_copy d m (length buffer)) n (length (value_at d m)) e).0
-
-    -- a copy that was made is an allowed read
-    pub read_allowed : read_verdict d m ≡ None
-    read_allowed = allowed (read_verdict d m) (length buffer) (length (value_at d m)) free
-
-    -- and its value stands at the buffer's front
-    pub read_front : take n (buffer_after d m buffer) ≡ value_at d m
-    read_front =
-        let v = value_at d m in
-        let long : n ≡ length v = (copied_none (refuses_copy d m (length buffer)) n (length v) e).1 in
-        simp (ap (λ r. overlaid r v buffer) free, long) (take-append_seam v (drop (length v) buffer))

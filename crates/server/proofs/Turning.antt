@@ -1,5 +1,5 @@
 -- Steps told in other words: by what a dictionary answered, and by what the buffer holds.
-use Rattle.std.proofs.Common.{◌≡◌, ℕ, ◌+◌, ◌<◌, ◌≤◌, Bool, true, false, cond, List, length, take, drop, Some, None, Ok, Err, Option, sym, refl, ap, ◌∙◌, subst, take_all, lt-ltb, eq-eqb}
+use Rattle.std.proofs.Common.{◌≡◌, ℕ, ◌+◌, ◌<◌, ◌≤◌, Bool, true, false, cond, List, length, take, drop, Some, None, Err, Option, sym, refl, ap, ◌∙◌, subst, take_all, lt-ltb, eq-eqb}
 use Rattle.std.proofs.lemmas.Bool.{le-ltb, le-leb, lt-leb}
 use Rattle.wire.specs.declared.multiplexor.Multiplexor.{Multiplexor}
 use Rattle.wire.specs.declared.abort_code.AbortCode.{AbortCode}
@@ -49,10 +49,6 @@ module _ {s t : Node} {r : Reaction} where
 pub refused_by : (w : Option AbortCode) (c : AbortCode) → Err c ≡ decided w → w ≡ Some c
 refused_by None c e = cc
 refused_by (Some x) c e = cc
-
-pub allowed_by : (w : Option AbortCode) → Ok tt ≡ decided w → w ≡ None
-allowed_by None e = refl
-allowed_by (Some x) e = cc
 
 -- a value that does not fit the answer is given by segments
 by_segments : (b : Bool) (m : Multiplexor) (v : List ℕ) → None ≡ cond b (Some v) None → announced m v ≡ cond b (answered Idle (answer.InitiateUpload m (coming.Expedited v))) (announced m v)
