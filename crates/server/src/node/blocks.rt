@@ -1,5 +1,5 @@
 //! Block writes (CiA 301, 7.2.4.3.9 to 7.2.4.3.11: SDO block download initiate, sub-block and end).
-ghost use Rattle.std.specs.Prelude.{◌≡◌, ◌++◌};
+ghost use Rattle.std.specs.Prelude.{◌≡◌};
 ghost use Rattle.sdo.specs.Answers.{shown_answer};
 ghost use Rattle.sdo.specs.BlockRequests.{shown_block_request};
 ghost use Rattle.server.specs.Nodes.{Turns, Does, shown};
