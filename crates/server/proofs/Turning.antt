@@ -1,6 +1,6 @@
 -- Steps told in other words: by what a dictionary answered, and by what the buffer holds.
-use Rattle.std.proofs.Common.{◌≡◌, ℕ, ◌+◌, ◌<◌, ◌≤◌, Bool, true, false, cond, List, length, take, drop, Some, None, Err, Option, sym, refl, ap, ◌∙◌, subst, take_all, lt-ltb, eq-eqb}
-use Rattle.std.proofs.lemmas.Bool.{le-ltb, le-leb, lt-leb}
+use Rattle.std.proofs.Common.{◌≡◌, ℕ, ◌+◌, ◌<◌, ◌≤◌, Bool, true, false, cond, List, length, take, drop, Some, None, Err, Option, sym, refl, ap, ◌∙◌, subst, take_all, lt-ltb, eq-eqb, eqb, eqb-true, not}
+use Rattle.std.proofs.lemmas.Bool.{not-false, le-ltb, le-leb, lt-leb}
 use Rattle.wire.specs.declared.multiplexor.Multiplexor.{Multiplexor}
 use Rattle.wire.specs.declared.abort_code.AbortCode.{AbortCode}
 use Rattle.wire.specs.declared.abort_code.AbortCode.TheVariants.{LengthTooHigh}
@@ -76,6 +76,10 @@ module _ (d : List Entry) (w : DownloadStart) (t : Toggle) (last : Bool) (v : Li
 
   pub received_more : length v ≤ 1024 → last ≡ false → answered (Download w (other t) v) (answer.DownloadSegment t) ≡ received d w t last v
   received_more h e = rw (le-ltb 1024 (length v) h, e)
+
+-- a test that two numbers differ, which failed
+pub same_number : (x y : ℕ) (r : Bool) → r ≡ not (eqb x y) → r ≡ false → x ≡ y
+same_number x y r e h = eqb-true x y (not-false (eqb x y) (sym e ∙ h))
 
 -- a frame with the node's identifier
 pub addressed : (d : List Entry) (s : State) (f : Frame) → f.identifier.number ≡ 0x600 + s.number.number → heard d s.block_size.number s.transfer f.bytes ≡ taken d s f
