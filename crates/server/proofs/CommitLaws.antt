@@ -1,5 +1,5 @@
 -- Only a commit changes the dictionary.
-use Rattle.std.proofs.Common.{◌≡◌, ℕ, ◌+◌, Bool, true, false, cond, leb, List, Some, None, Option, sym, refl, ap, ◌∙◌, arith}
+use Rattle.std.proofs.Common.{◌≡◌, ℕ, ◌+◌, Bool, true, false, cond, leb, List, Some, None, Option, sym, refl, ap, ◌∙◌}
 use Rattle.wire.specs.declared.multiplexor.Multiplexor.{Multiplexor}
 use Rattle.wire.specs.declared.abort_code.AbortCode.{AbortCode}
 use Rattle.wire.specs.declared.frame.Frame.{Frame}
@@ -23,12 +23,12 @@ record Did (d : List Entry) (p : Step) : Type 0 where
 
 did : (d : List Entry) (p : Step) → Kind d p → p.served ≡ Committed → Did d p
 did d p (commits m v a e) h = record { at = m; value = v; free = e; set = refl; over = refl }
-did d p (refuses m c) h = let z : ◌≡◌ {A = ℕ} 0 1 = cc in absurd (omega arith)
-did d p hears h = let z : ◌≡◌ {A = ℕ} 0 1 = cc in absurd (omega arith)
-did d p (answers t a q) h = let z : ◌≡◌ {A = ℕ} 0 1 = cc in absurd (omega arith)
-did d p (drops t) h = let z : ◌≡◌ {A = ℕ} 0 1 = cc in absurd (omega arith)
-did d p (keeps t) h = let z : ◌≡◌ {A = ℕ} 0 1 = cc in absurd (omega arith)
-did d p (waits t) h = let z : ◌≡◌ {A = ℕ} 0 1 = cc in absurd (omega arith)
+did d p (refuses m c) h = cc
+did d p hears h = cc
+did d p (answers t a q) h = cc
+did d p (drops t) h = cc
+did d p (keeps t) h = cc
+did d p (waits t) h = cc
 
 left : (d : List Entry) (p : Step) → Kind d p → (p.served ≡ Committed → ⊥) → p.set ≡ None
 left d p (commits m v a e) h = absurd (h refl)
@@ -42,7 +42,7 @@ left d p (waits t) h = refl
 -- no frame, no commit
 told_frame : (d : List Entry) (s : State) (f : Option Frame) → (step d s f).served ≡ Committed → Did d (step d s f) → Commits d s f
 unfolding step
-told_frame d s None e h = let z : ◌≡◌ {A = ℕ} 0 1 = cc in absurd (omega arith)
+told_frame d s None e h = cc
 told_frame d s (Some f) e h =
     record {
       multiplexor = h.at;
@@ -80,12 +80,12 @@ idle_by d p hears m c h = refl
 idle_by d p (answers t a q) m c h =
     let same : a ≡ answer.Abort m c = cc in
     let no : true ≡ false = ap says_abort (sym same) ∙ q in
-    let z : ◌≡◌ {A = ℕ} 0 1 = cc in absurd (omega arith)
-idle_by d p (drops t) m c h = let z : ◌≡◌ {A = ℕ} 0 1 = cc in absurd (omega arith)
-idle_by d p (keeps t) m c h = let z : ◌≡◌ {A = ℕ} 0 1 = cc in absurd (omega arith)
-idle_by d p (waits t) m c h = let z : ◌≡◌ {A = ℕ} 0 1 = cc in absurd (omega arith)
+    cc
+idle_by d p (drops t) m c h = cc
+idle_by d p (keeps t) m c h = cc
+idle_by d p (waits t) m c h = cc
 
 pub aborts_leave_idle : AbortsLeaveIdle
 unfolding step
-aborts_leave_idle d s None m c h = let z : ◌≡◌ {A = ℕ} 0 1 = cc in absurd (omega arith)
+aborts_leave_idle d s None m c h = cc
 aborts_leave_idle d s (Some f) m c h = idle_by d (step d s (Some f)) (step-kind d s (Some f)) m c h

@@ -1,4 +1,5 @@
 pub mod AnswerLaws
+pub mod Choosing
 pub mod CommitLaws
 pub mod Loading
 pub mod RunLaws

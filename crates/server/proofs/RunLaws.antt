@@ -19,22 +19,25 @@ use Rattle.dictionary.specs.Entries.{Entry}
 use Rattle.dictionary.specs.Questions.{value_at}
 use Rattle.dictionary.specs.Verdicts.{write_verdict, start_verdict, read_verdict}
 use Rattle.server.specs.declared.block_start.BlockStart.{BlockStart}
+use Rattle.server.specs.declared.download_start.DownloadStart.{DownloadStart}
+use Rattle.server.specs.declared.reception.Reception.{Reception}
 use Rattle.server.specs.declared.served.Served.{Served}
 use Rattle.server.specs.declared.served.Served.TheVariants.{Aborted, Dropped}
 use Rattle.server.specs.Buffers.{full}
 use Rattle.server.specs.States.{State, Transfer, Idle, Download, Upload, BlockDownload, BlockEnd, is_idle, named}
-use Rattle.server.specs.Steps.{Step, Setting, refused, ended, answered, dropped, unless, commit, differs, completed, download_segment, crc_differs, upload_segment, block_end, asked, understood, ends, keep, pass_over, spoil, asked_in_block, heard, step}
+use Rattle.server.specs.Steps.{Step, Setting, refused, ended, answered, dropped, commit, differs, completed, download_segment, crc_differs, upload_segment, block_end, asked, understood, ends, keep, pass_over, spoil, asked_in_block, heard, step}
 use Rattle.server.specs.Nodes.{timed_out, waited, tick}
 use Rattle.server.specs.Runs.{Notes, Nothing, Segments, Block, noted, noted_at, to, told, after_request, after_known, acknowledged, after_block, notes_after, notes_by, Scene, Event, Serve, happened, run, carried, Completes, ValuesCarried}
 use Rattle.server.specs.Runs as runs
+use Rattle.server.proofs.Choosing.{chosen, judged}
 
 -- the notes agree with a transfer
 abbrev Agrees : Notes → Transfer → Type 0
 Agrees w Idle = w ≡ Nothing
-Agrees w (Download m size u v) = w ≡ Segments m v
+Agrees w (Download z u v) = w ≡ Segments z.multiplexor v
 Agrees w (Upload m u v) = w ≡ Nothing
-Agrees w (BlockDownload b s over v) = (1 ≤ s) × (w ≡ Block b.multiplexor s v)
-Agrees w (BlockEnd b v) = w ≡ Segments b.multiplexor v
+Agrees w (BlockDownload r v) = (1 ≤ r.expected) × (w ≡ Block r.start.download.multiplexor r.expected v)
+Agrees w (BlockEnd b v) = w ≡ Segments b.download.multiplexor v
 
 -- after a step on a request the notes agree again, and a value that is set is the one that the request completes
 record Fair (w : Notes) (q : Request) (p : Step) : Type 0 where
@@ -42,78 +45,70 @@ record Fair (w : Notes) (q : Request) (p : Step) : Type 0 where
   whole : (x : Setting) → p.set ≡ Some x → x ≡ carried w q
 
 unset : (x : Setting) (P : Type 0) → ◌≡◌ {A = Option Setting} None (Some x) → P
-unset x P e = let z : ◌≡◌ {A = ℕ} 0 1 = cc in absurd (omega arith)
+unset x P e = cc
 
 module _ (w : Notes) (q : Request) where
-  either : (x : Bool) {p r : Step} → Fair w q p → Fair w q r → Fair w q (cond x p r)
-  either true h k = h
-  either false h k = k
-
   refuses : (m : Multiplexor) (c : AbortCode) → Fair w q (refused m c)
   refuses m c = record { agrees = refl; whole = λ x e. unset x _ e }
-
-  judged : (o : Option AbortCode) (m : Multiplexor) {p : Step} → Fair w q p → Fair w q (unless o m p)
-  judged None m h = h
-  judged (Some c) m h = refuses m c
 
   answers : (t : Transfer) (a : Answer) → Agrees (after_request w q) t → Fair w q (answered t a)
   answers t a h = record { agrees = h; whole = λ x e. unset x _ e }
 
   commits : (d : List Entry) (m : Multiplexor) (v : List ℕ) (a : Answer) → to m v ≡ carried w q → Fair w q (commit d m v a)
   commits d m v a h =
-      judged (write_verdict d m v) m (record { agrees = refl; whole = λ x e. let same : to m v ≡ x = cc in sym same ∙ h })
+      judged (Fair w q) (write_verdict d m v) m (refuses m) (record { agrees = refl; whole = λ x e. let same : to m v ≡ x = cc in sym same ∙ h })
 
-  completes : (d : List Entry) (m : Multiplexor) (size : Option ℕ) (v : List ℕ) (a : Answer) → to m v ≡ carried w q → Fair w q (completed d m size v a)
-  completes d m size v a h = either (differs size (length v)) (refuses _ _) (commits d m v a h)
+  completes : (d : List Entry) (z : DownloadStart) (v : List ℕ) (a : Answer) → to z.multiplexor v ≡ carried w q → Fair w q (completed d z v a)
+  completes d z v a h = chosen (Fair w q) (differs z.size (length v)) (refuses _ _) (commits d z.multiplexor v a h)
 
 module _ (d : List Entry) where
   download_fair : (w : Notes) (t : Transfer) (u : Toggle) (x : List ℕ) (last : Bool) → Agrees w t → Fair w (request.DownloadSegment u x last) (download_segment d t u x last)
   download_fair w Idle u x last h = refuses w _ _ _
-  download_fair w (Download m size y v) u x last h =
+  download_fair w (Download z y v) u x last h =
       let q = request.DownloadSegment u x last in
-      let whole : to m (v ++ x) ≡ to (noted_at w) (noted w ++ x) = ap (λ (k : Notes). to (noted_at k) (noted k ++ x)) (sym h) in
-      either w q (same_toggle u y)
-      (either w q (ltb 1024 (length (v ++ x))) (refuses w q _ _)
-      (either w q last (completes w q d m size (v ++ x) (answer.DownloadSegment u) whole) (answers w q _ (answer.DownloadSegment u) (ap (λ (k : Notes). Segments (noted_at k) (noted k ++ x)) h))))
+      let whole : to z.multiplexor (v ++ x) ≡ to (noted_at w) (noted w ++ x) = ap (λ (k : Notes). to (noted_at k) (noted k ++ x)) (sym h) in
+      chosen (Fair w q) (same_toggle u y)
+      (chosen (Fair w q) (ltb 1024 (length (v ++ x))) (refuses w q _ _)
+      (chosen (Fair w q) last (completes w q d z (v ++ x) (answer.DownloadSegment u) whole) (answers w q _ (answer.DownloadSegment u) (ap (λ (k : Notes). Segments (noted_at k) (noted k ++ x)) h))))
       (refuses w q _ _)
   download_fair w (Upload m y v) u x last h = refuses w _ _ _
-  download_fair w (BlockDownload b s over v) u x last h = refuses w _ _ _
+  download_fair w (BlockDownload r v) u x last h = refuses w _ _ _
   download_fair w (BlockEnd b v) u x last h = refuses w _ _ _
 
   upload_fair : (w : Notes) (t : Transfer) (u : Toggle) → Fair w (request.UploadSegment u) (upload_segment t u)
   upload_fair w Idle u = refuses w _ _ _
-  upload_fair w (Download m size y v) u = refuses w _ _ _
+  upload_fair w (Download z y v) u = refuses w _ _ _
   upload_fair w (Upload m y v) u =
       let q = request.UploadSegment u in
-      either w q (same_toggle u y) (either w q (leb (length v) 7) (answers w q _ _ refl) (answers w q _ _ refl)) (refuses w q _ _)
-  upload_fair w (BlockDownload b s over v) u = refuses w _ _ _
+      chosen (Fair w q) (same_toggle u y) (chosen (Fair w q) (leb (length v) 7) (answers w q _ _ refl) (answers w q _ _ refl)) (refuses w q _ _)
+  upload_fair w (BlockDownload r v) u = refuses w _ _ _
   upload_fair w (BlockEnd b v) u = refuses w _ _ _
 
   end_fair : (w : Notes) (t : Transfer) (i k : ℕ) → Agrees w t → Fair w (request.EndBlockDownload i k) (block_end d t i k)
   end_fair w Idle i k h = refuses w _ _ _
-  end_fair w (Download m size y v) i k h = refuses w _ _ _
+  end_fair w (Download z y v) i k h = refuses w _ _ _
   end_fair w (Upload m y v) i k h = refuses w _ _ _
-  end_fair w (BlockDownload b s over v) i k h = refuses w _ _ _
+  end_fair w (BlockDownload r v) i k h = refuses w _ _ _
   end_fair w (BlockEnd b v) i k h =
       let q = request.EndBlockDownload i k in
       let x = take (length v - i) v in
-      either w q (crc_differs b.crc k x) (refuses w q _ _)
-      (completes w q d b.multiplexor b.size x answer.EndBlockDownload (ap (λ (y : Notes). to (noted_at y) (take (length (noted y) - i) (noted y))) (sym h)))
+      chosen (Fair w q) (crc_differs b.crc k x) (refuses w q _ _)
+      (completes w q d b.download x answer.EndBlockDownload (ap (λ (y : Notes). to (noted_at y) (take (length (noted y) - i) (noted y))) (sym h)))
 
   abort_fair : (w : Notes) (t : Transfer) (q : Request) → Agrees w t → Fair w q (cond (is_idle t) (dropped t) ended)
   abort_fair w t q h =
-      either w q (is_idle t) (record { agrees = h; whole = λ x e. unset x _ e }) (record { agrees = refl; whole = λ x e. unset x _ e })
+      chosen (Fair w q) (is_idle t) (record { agrees = h; whole = λ x e. unset x _ e }) (record { agrees = refl; whole = λ x e. unset x _ e })
 
   -- what a node does with a request
   asked_fair : (n : ℕ) (w : Notes) (t : Transfer) (q : Request) → Agrees w t → Fair w q (asked d n t q)
   asked_fair n w t (request.InitiateDownload m (coming.Expedited v)) h = commits w (request.InitiateDownload m (coming.Expedited v)) d m v (answer.InitiateDownload m) refl
-  asked_fair n w t (request.InitiateDownload m (coming.Segmented size)) h = judged w _ (start_verdict d m size) m (answers w _ _ _ refl)
+  asked_fair n w t (request.InitiateDownload m (coming.Segmented size)) h = judged (Fair w _) (start_verdict d m size) m (refuses w _ m) (answers w _ _ _ refl)
   asked_fair n w t (request.DownloadSegment u x last) h = download_fair w t u x last h
   asked_fair n w t (request.InitiateUpload m) h =
       let q = request.InitiateUpload m in
-      judged w q (read_verdict d m) m (either w q (fits_expedited (value_at d m)) (answers w q _ _ refl) (answers w q _ _ refl))
+      judged (Fair w q) (read_verdict d m) m (refuses w q m) (chosen (Fair w q) (fits_expedited (value_at d m)) (answers w q _ _ refl) (answers w q _ _ refl))
   asked_fair n w t (request.UploadSegment u) h = upload_fair w t u
-  asked_fair n w t (request.InitiateBlockDownload m c size) h = judged w _ (start_verdict d m size) m (answers w _ _ _ (omega arith, refl))
+  asked_fair n w t (request.InitiateBlockDownload m c size) h = judged (Fair w _) (start_verdict d m size) m (refuses w _ m) (answers w _ _ _ (omega arith, refl))
   asked_fair n w t (request.EndBlockDownload i k) h = end_fair w t i k h
   asked_fair n w t (request.Abort m c) h = abort_fair w t (request.Abort m c) h
 
@@ -122,43 +117,45 @@ record Keeps (m : Multiplexor) (s : ℕ) (v : List ℕ) (q : BlockRequest) (p : 
   agrees : Agrees (after_block m s v p.served p.reply q) p.next
   unset : p.set ≡ None
 
-split : {m : Multiplexor} {s : ℕ} {v : List ℕ} (q : BlockRequest) (x : Bool) {p r : Step} → Keeps m s v q p → Keeps m s v q r → Keeps m s v q (cond x p r)
-split q true h k = h
-split q false h k = k
-
 -- the awaited segment is kept: what is acknowledged is its own number
-keeps : (n : ℕ) (b : BlockStart) (s : ℕ) (v : List ℕ) (last : Bool) (k : ℕ) (x : List ℕ) → k ≡ s → Keeps b.multiplexor s v (block.Segment last k x) (keep n b last k (v ++ x))
-keeps n b s v true k x e = record { agrees = ap (λ y. cond y (Segments b.multiplexor (v ++ x)) (Block b.multiplexor 1 v)) (eq-eqb k s e); unset = refl }
+keeps : (n : ℕ) (b : BlockStart) (s : ℕ) (v : List ℕ) (last : Bool) (k : ℕ) (x : List ℕ) → k ≡ s → Keeps b.download.multiplexor s v (block.Segment last k x) (keep n b last k (v ++ x))
+keeps n b s v true k x e =
+    let m = b.download.multiplexor in
+    record { agrees = ap (λ y. cond y (Segments m (v ++ x)) (Block m 1 v)) (eq-eqb k s e); unset = refl }
 keeps n b s v false k x e =
-    split (block.Segment false k x) (eqb k n)
-    (record { agrees = (omega arith, ap (λ y. cond y (Block b.multiplexor 1 (v ++ x)) (Block b.multiplexor 1 v)) (eq-eqb k s e)); unset = refl })
-    (record { agrees = (omega arith, ap (λ j. Block b.multiplexor (j + 1) (v ++ x)) (sym e)); unset = refl })
+    let m = b.download.multiplexor in
+    chosen (Keeps m s v (block.Segment false k x)) (eqb k n)
+    (record { agrees = (omega arith, ap (λ y. cond y (Block m 1 (v ++ x)) (Block m 1 v)) (eq-eqb k s e)); unset = refl })
+    (record { agrees = (omega arith, ap (λ j. Block m (j + 1) (v ++ x)) (sym e)); unset = refl })
 
-module _ (n : ℕ) (b : BlockStart) (s : ℕ) (v : List ℕ) (some : 1 ≤ s) where
+module _ (n : ℕ) (r : Reception) (v : List ℕ) (some : 1 ≤ r.expected) where
+  abbrev m : Multiplexor
+  m = r.start.download.multiplexor
+
   -- one that is passed over: what is acknowledged is another number
-  behind : eqb (s - 1) s ≡ false
-  behind = ne_eqb (s - 1) s (λ (e : s - 1 ≡ s). omega arith)
+  behind : eqb (r.expected - 1) r.expected ≡ false
+  behind = ne_eqb (r.expected - 1) r.expected (λ (e : r.expected - 1 ≡ r.expected). omega arith)
 
   module _ (last : Bool) (k : ℕ) (x : List ℕ) where
     abbrev it : BlockRequest
     it = block.Segment last k x
 
-    spoils : Keeps b.multiplexor s v it (spoil n b s v last k)
-    spoils = split it (ends n last k) (record { agrees = refl; unset = refl }) (record { agrees = (some, refl); unset = refl })
+    spoils : Keeps m r.expected v it (spoil n r v last k)
+    spoils = chosen (Keeps m r.expected v it) (ends n last k) (record { agrees = refl; unset = refl }) (record { agrees = (some, refl); unset = refl })
 
-    passes : Keeps b.multiplexor s v it (pass_over n b s v last k)
+    passes : Keeps m r.expected v it (pass_over n r v last k)
     passes =
-        split it (ends n last k)
-        (record { agrees = (omega arith, ap (λ y. cond y (cond last (Segments b.multiplexor (v ++ x)) (Block b.multiplexor 1 (v ++ x))) (Block b.multiplexor 1 v)) behind); unset = refl })
+        chosen (Keeps m r.expected v it) (ends n last k)
+        (record { agrees = (omega arith, ap (λ y. cond y (cond last (Segments m (v ++ x)) (Block m 1 (v ++ x))) (Block m 1 v)) behind); unset = refl })
         (record { agrees = (some, refl); unset = refl })
 
-    sorted : (y : Bool) → eqb k s ≡ y → Keeps b.multiplexor s v it (cond y (cond (full v) (spoil n b s v last k) (keep n b last k (v ++ x))) (pass_over n b s v last k))
-    sorted true e = split it (full v) spoils (keeps n b s v last k x (eqb-true k s e))
+    sorted : (y : Bool) → eqb k r.expected ≡ y → Keeps m r.expected v it (cond y (cond (full v) (spoil n r v last k) (keep n r.start last k (v ++ x))) (pass_over n r v last k))
+    sorted true e = chosen (Keeps m r.expected v it) (full v) spoils (keeps n r.start r.expected v last k x (eqb-true k r.expected e))
     sorted false e = passes
 
-  block_fair : (over : Bool) (q : BlockRequest) → Keeps b.multiplexor s v q (asked_in_block n b s over v q)
-  block_fair over (block.Segment last k x) = split (it last k x) over (spoils last k x) (sorted last k x (eqb k s) refl)
-  block_fair over (block.Abort m c) = record { agrees = refl; unset = refl }
+  block_fair : (q : BlockRequest) → Keeps m r.expected v q (asked_in_block n r v q)
+  block_fair (block.Segment last k x) = chosen (Keeps m r.expected v (it last k x)) r.spoiled (spoils last k x) (sorted last k x (eqb k r.expected) refl)
+  block_fair (block.Abort i c) = record { agrees = refl; unset = refl }
 
 -- after a frame the notes agree again, and a value that is set is the one that the frame completes
 record Follows (w : Notes) (bytes : List ℕ) (p : Step) : Type 0 where
@@ -181,24 +178,24 @@ module _ (d : List Entry) (n : ℕ) where
         whole = λ x z. (q, e, fair.whole x z);
       }
 
-  in_block : (s : ℕ) (v bytes : List ℕ) (b : BlockStart) (over : Bool) → 1 ≤ s → Follows (Block b.multiplexor s v) bytes (asked_in_block n b s over v (block_request_in bytes))
-  in_block s v bytes b over some =
-      let fair = block_fair n b s v some over (block_request_in bytes) in
+  in_block : (r : Reception) (v bytes : List ℕ) → 1 ≤ r.expected → Follows (Block r.start.download.multiplexor r.expected v) bytes (asked_in_block n r v (block_request_in bytes))
+  in_block r v bytes some =
+      let fair = block_fair n r v some (block_request_in bytes) in
       record { agrees = fair.agrees; whole = λ x z. unset x _ (sym fair.unset ∙ z) }
 
   heard_fair : (w : Notes) (t : Transfer) (bytes : List ℕ) → Agrees w t → Follows w bytes (heard d n t bytes)
   heard_fair w Idle bytes h = subst (λ (k : Notes). Follows k bytes (heard d n Idle bytes)) (sym h) (known Nothing Idle bytes (request_in bytes) refl (λ r a. refl) refl)
-  heard_fair w (Download m size u v) bytes h =
-      let t = Download m size u v in
-      subst (λ (k : Notes). Follows k bytes (heard d n t bytes)) (sym h) (known (Segments m v) t bytes (request_in bytes) refl (λ r a. refl) refl)
+  heard_fair w (Download z u v) bytes h =
+      let t = Download z u v in
+      subst (λ (k : Notes). Follows k bytes (heard d n t bytes)) (sym h) (known (Segments z.multiplexor v) t bytes (request_in bytes) refl (λ r a. refl) refl)
   heard_fair w (Upload m u v) bytes h =
       let t = Upload m u v in
       subst (λ (k : Notes). Follows k bytes (heard d n t bytes)) (sym h) (known Nothing t bytes (request_in bytes) refl (λ r a. refl) refl)
-  heard_fair w (BlockDownload b s over v) bytes h =
-      subst (λ (k : Notes). Follows k bytes (heard d n (BlockDownload b s over v) bytes)) (sym h.1) (in_block s v bytes b over h.0)
+  heard_fair w (BlockDownload r v) bytes h =
+      subst (λ (k : Notes). Follows k bytes (heard d n (BlockDownload r v) bytes)) (sym h.1) (in_block r v bytes h.0)
   heard_fair w (BlockEnd b v) bytes h =
       let t = BlockEnd b v in
-      subst (λ (k : Notes). Follows k bytes (heard d n t bytes)) (sym h) (known (Segments b.multiplexor v) t bytes (request_in bytes) refl (λ r a. refl) refl)
+      subst (λ (k : Notes). Follows k bytes (heard d n t bytes)) (sym h) (known (Segments b.download.multiplexor v) t bytes (request_in bytes) refl (λ r a. refl) refl)
 
 -- a foreign frame changes no notes
 known_dropped : (w : Notes) (o : Option Request) → after_known w Dropped o ≡ w
@@ -217,14 +214,10 @@ same-notes (Block m s v) bytes = block_dropped m s v (block_request_in bytes)
 foreign_fair : (w : Notes) (t : Transfer) (bytes : List ℕ) → Agrees w t → Follows w bytes (dropped t)
 foreign_fair w t bytes h = record { agrees = subst (λ (k : Notes). Agrees k t) (sym (same-notes w bytes)) h; whole = λ x z. unset x _ z }
 
-which : (w : Notes) (bytes : List ℕ) (x : Bool) {p r : Step} → Follows w bytes p → Follows w bytes r → Follows w bytes (cond x p r)
-which w bytes true h k = h
-which w bytes false h k = k
-
 step_fair : (d : List Entry) (s : State) (w : Notes) (f : Frame) → Agrees w s.transfer → Follows w f.bytes (step d s (Some f))
 unfolding step
 step_fair d s w f h =
-    which w f.bytes (eqb f.identifier.number (request_identifier s.number).number)
+    chosen (Follows w f.bytes) (eqb f.identifier.number (request_identifier s.number).number)
     (heard_fair d s.block_size.number w s.transfer f.bytes h) (foreign_fair w s.transfer f.bytes h)
 
 -- a tick leaves the notes, or ends the transfer
@@ -252,10 +245,10 @@ run_good (e ∷ es) x h = run_good es (happened e x) (event_good e x h)
 
 starts : (t : Transfer) → is_idle t ≡ true → Agrees Nothing t
 starts Idle e = refl
-starts (Download m size u v) e = let z : ◌≡◌ {A = ℕ} 0 1 = cc in absurd (omega arith)
+starts (Download z u v) e = cc
 starts (Upload m u v) e = refl
-starts (BlockDownload b s over v) e = let z : ◌≡◌ {A = ℕ} 0 1 = cc in absurd (omega arith)
-starts (BlockEnd b v) e = let z : ◌≡◌ {A = ℕ} 0 1 = cc in absurd (omega arith)
+starts (BlockDownload r v) e = cc
+starts (BlockEnd b v) e = cc
 
 pub values_carried : ValuesCarried
 values_carried d s idle es f x h =

@@ -15,7 +15,7 @@ none_changes_nothing d s = (refl, refl)
 
 -- a node with another time
 abbrev at_time : ℕ → State → State
-at_time n s = record { number = s.number; block_size = s.block_size; transfer = s.transfer; ticks = n; commits = s.commits }
+at_time n s = record s { ticks = n }
 
 -- a tick of a busy node before the 25th, and the 25th
 early : (s : State) → is_idle s.transfer ≡ false → s.ticks < 24 → tick s ≡ waited s

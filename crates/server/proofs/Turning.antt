@@ -1,6 +1,6 @@
 -- Steps told in other words: by what a dictionary answered, and by what the buffer holds.
-use Rattle.std.proofs.Common.{◌≡◌, ℕ, ◌+◌, ◌<◌, ◌≤◌, Bool, true, false, cond, List, length, take, drop, Some, None, Ok, Err, Option, sym, refl, subst, arith, take_all, lt-ltb, eq-eqb}
-use Rattle.std.proofs.lemmas.Bool.{le-ltb, le-leb, lt-leb}
+use Rattle.std.proofs.Common.{◌≡◌, ℕ, ◌+◌, ◌<◌, ◌≤◌, Bool, true, false, cond, List, length, take, drop, Some, None, Err, Option, sym, refl, ap, ◌∙◌, subst, take_all, lt-ltb, eq-eqb, eqb, eqb-true, not}
+use Rattle.std.proofs.lemmas.Bool.{not-false, le-ltb, le-leb, lt-leb}
 use Rattle.wire.specs.declared.multiplexor.Multiplexor.{Multiplexor}
 use Rattle.wire.specs.declared.abort_code.AbortCode.{AbortCode}
 use Rattle.wire.specs.declared.abort_code.AbortCode.TheVariants.{LengthTooHigh}
@@ -13,45 +13,50 @@ use Rattle.sdo.specs.Segments.{other}
 use Rattle.sdo.specs.Transfers as coming
 use Rattle.dictionary.specs.Entries.{Entry}
 use Rattle.dictionary.specs.Commits.{decided}
-use Rattle.server.specs.declared.block_start.BlockStart.{BlockStart}
+use Rattle.server.specs.declared.download_start.DownloadStart.{DownloadStart}
+use Rattle.server.specs.declared.reception.Reception.{Reception}
 use Rattle.server.specs.declared.reaction.Reaction.{Reaction}
 use Rattle.server.specs.declared.transfer.Transfer as declared
 use Rattle.server.specs.States.{State, Idle, Download, Upload}
 use Rattle.server.specs.Steps.{Step, Setting, refused, answered, announced, given, completed, received, next_segment, understood, heard, taken, step}
-use Rattle.server.specs.Nodes.{Turns, Does, Serves, dictionary_by, shown_transfer}
+use Rattle.server.specs.declared.node.Node.{Node}
+use Rattle.server.specs.Nodes.{Turns, Does, Serves, reaction, stepped, dictionary_by, shown, shown_transfer}
 
-left : (o : Option Setting) (d : List Entry) → o ≡ None → d ≡ dictionary_by o d
-left None d e = refl
-left (Some v) d e = let z : ◌≡◌ {A = ℕ} 0 1 = cc in absurd (omega arith)
-
-module _ {s t : State} {r : Reaction} where
-  -- a step that sets nothing leaves the dictionary
-  pub leaving : (p : Step) (d : List Entry) → Turns p s t r → Does p s t d d r
-  leaving p d h = record { answer = h.answer; node = h.node; dictionary = left p.set d h.unset }
-
+module _ {s t : Node} {r : Reaction} where
   -- the same step in other words
   pub turning : {p q : Step} → p ≡ q → Turns p s t r → Turns q s t r
   turning e h = subst (λ (x : Step). Turns x s t r) e h
 
-  pub doing : {p q : Step} {d f : List Entry} → p ≡ q → Does p s t d f r → Does q s t d f r
-  doing {d = d} {f = f} e h = subst (λ (x : Step). Does x s t d f r) e h
+  module _ {D : Type 0} {meaning : D → List Entry} where
+    -- a step that sets nothing leaves the dictionary
+    pub leaving : (p : List Entry → Step) (d : D) → Turns (p (meaning d)) s t r → Does meaning p s t d d r
+    leaving p d h = record { answer = h.answer; node = h.node; dictionary = sym (ap (λ (o : Option Setting). dictionary_by o (meaning d)) h.unset) }
+
+    pub doing : {p q : List Entry → Step} {d e : D} → p (meaning d) ≡ q (meaning d) → Does meaning p s t d e r → Does meaning q s t d e r
+    doing {d = d} {e = e} same h =
+        record {
+          answer = h.answer ∙ ap (λ (x : Step). reaction s.number x) same;
+          node = h.node ∙ ap (λ (x : Step). stepped x (shown s)) same;
+          dictionary = h.dictionary ∙ ap (λ (x : Step). dictionary_by x.set (meaning d)) same;
+        }
+
+    -- a frame that waited
+    pub serving : {d e : D} (o : Option Frame) (f : Frame) → o ≡ Some f → Does meaning (λ x. taken x (shown s) f) s t d e r → Serves meaning o s t d e r
+    unfolding step
+    serving {d} {e} o f is h = subst (λ (x : Option Frame). Serves meaning x s t d e r) (sym is) (record { answer = h.answer; node = h.node; dictionary = h.dictionary })
 
 -- what a decision tells of the verdict
 pub refused_by : (w : Option AbortCode) (c : AbortCode) → Err c ≡ decided w → w ≡ Some c
-refused_by None c e = let z : ◌≡◌ {A = ℕ} 0 1 = cc in absurd (omega arith)
+refused_by None c e = cc
 refused_by (Some x) c e = cc
-
-pub allowed_by : (w : Option AbortCode) → Ok tt ≡ decided w → w ≡ None
-allowed_by None e = refl
-allowed_by (Some x) e = let z : ◌≡◌ {A = ℕ} 0 1 = cc in absurd (omega arith)
 
 -- a value that does not fit the answer is given by segments
 by_segments : (b : Bool) (m : Multiplexor) (v : List ℕ) → None ≡ cond b (Some v) None → announced m v ≡ cond b (answered Idle (answer.InitiateUpload m (coming.Expedited v))) (announced m v)
-by_segments true m v e = let z : ◌≡◌ {A = ℕ} 0 1 = cc in absurd (omega arith)
+by_segments true m v e = cc
 by_segments false m v e = refl
 
-pub segments-given : (m : Multiplexor) (v : List ℕ) → None ≡ expedited_of v → announced m v ≡ given m v
-segments-given m v e = by_segments (fits_expedited v) m v e
+pub segments_given : (m : Multiplexor) (v : List ℕ) → None ≡ expedited_of v → announced m v ≡ given m v
+segments_given m v e = by_segments (fits_expedited v) m v e
 
 -- the last segment of a read, and one before it
 module _ (m : Multiplexor) (t : Toggle) (v : List ℕ) where
@@ -62,29 +67,28 @@ module _ (m : Multiplexor) (t : Toggle) (v : List ℕ) where
   more_given h = rw (lt-leb (length v) 7 h)
 
 -- a segment of a write: too long, the last one, or one before it
-module _ (d : List Entry) (m : Multiplexor) (size : Option ℕ) (t : Toggle) (last : Bool) (v : List ℕ) where
-  pub received_long : 1024 < length v → refused m LengthTooHigh ≡ received d m size t last v
+module _ (d : List Entry) (w : DownloadStart) (t : Toggle) (last : Bool) (v : List ℕ) where
+  pub received_long : 1024 < length v → refused w.multiplexor LengthTooHigh ≡ received d w t last v
   received_long h = rw (lt-ltb 1024 (length v) h)
 
-  pub received-last : length v ≤ 1024 → last ≡ true → completed d m size v (answer.DownloadSegment t) ≡ received d m size t last v
+  pub received-last : length v ≤ 1024 → last ≡ true → completed d w v (answer.DownloadSegment t) ≡ received d w t last v
   received-last h e = rw (le-ltb 1024 (length v) h, e)
 
-  pub received_more : length v ≤ 1024 → last ≡ false → answered (Download m size (other t) v) (answer.DownloadSegment t) ≡ received d m size t last v
+  pub received_more : length v ≤ 1024 → last ≡ false → answered (Download w (other t) v) (answer.DownloadSegment t) ≡ received d w t last v
   received_more h e = rw (le-ltb 1024 (length v) h, e)
+
+-- a test that two numbers differ, which failed
+pub same_number : (x y : ℕ) (r : Bool) → r ≡ not (eqb x y) → r ≡ false → x ≡ y
+same_number x y r e h = eqb-true x y (not-false (eqb x y) (sym e ∙ h))
 
 -- a frame with the node's identifier
 pub addressed : (d : List Entry) (s : State) (f : Frame) → f.identifier.number ≡ 0x600 + s.number.number → heard d s.block_size.number s.transfer f.bytes ≡ taken d s f
 addressed d s f own = rw (eq-eqb f.identifier.number (0x600 + s.number.number) own)
 
--- a frame that waited
-pub serving : {s t : State} {d e : List Entry} {r : Reaction} (o : Option Frame) (f : Frame) → o ≡ Some f → Does (taken d s f) s t d e r → Serves o s t d e r
-unfolding step
-serving {s} {t} {d} {e} {r} o f is h = subst (λ (x : Option Frame). Serves x s t d e r) (sym is) (record { answer = h.answer; node = h.node; dictionary = h.dictionary })
-
 -- bytes that are taken while no block segments come in
-pub elsewhere : (d : List Entry) (n : ℕ) (t : declared.Transfer) (v bytes : List ℕ) → ((b : BlockStart) (k : ℕ) (over : Bool) → t ≡ declared.TheVariants.BlockDownload b k over → ⊥) → understood d n (shown_transfer t v) (request_in bytes) ≡ heard d n (shown_transfer t v) bytes
+pub elsewhere : (d : List Entry) (n : ℕ) (t : declared.Transfer) (v bytes : List ℕ) → ((r : Reception) → t ≡ declared.TheVariants.BlockDownload r → ⊥) → understood d n (shown_transfer t v) (request_in bytes) ≡ heard d n (shown_transfer t v) bytes
 elsewhere d n declared.TheVariants.Idle v bytes h = refl
-elsewhere d n (declared.TheVariants.Download m size u) v bytes h = refl
-elsewhere d n (declared.TheVariants.Upload m u k) v bytes h = refl
-elsewhere d n (declared.TheVariants.BlockDownload b k over) v bytes h = absurd (h b k over refl)
+elsewhere d n (declared.TheVariants.Download w u) v bytes h = refl
+elsewhere d n (declared.TheVariants.Upload r) v bytes h = refl
+elsewhere d n (declared.TheVariants.BlockDownload r) v bytes h = absurd (h r refl)
 elsewhere d n (declared.TheVariants.BlockEnd b) v bytes h = refl

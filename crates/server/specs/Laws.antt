@@ -65,9 +65,9 @@ ForeignDropped = (d : List Entry) (s : State) (f : Frame) → (IsFor f s → ⊥
 -- block segments come in
 abbrev pub in_block : Transfer → Bool
 in_block Idle = false
-in_block (Download m size u v) = false
+in_block (Download w u v) = false
 in_block (Upload m u v) = false
-in_block (BlockDownload b s over v) = true
+in_block (BlockDownload r v) = true
 in_block (BlockEnd b v) = false
 
 -- a request starts a transfer
@@ -92,23 +92,23 @@ is_abort (request.Abort m c) = true
 -- the one request that a transfer awaits: the next segment of a write, that of a read, the end of a block write
 abbrev pub awaits : Transfer → Request → Bool
 awaits Idle q = false
-awaits (Download m size u v) (request.InitiateDownload n how) = false
-awaits (Download m size u v) (request.DownloadSegment t w last) = true
-awaits (Download m size u v) (request.InitiateUpload n) = false
-awaits (Download m size u v) (request.UploadSegment t) = false
-awaits (Download m size u v) (request.InitiateBlockDownload n c z) = false
-awaits (Download m size u v) (request.EndBlockDownload unused k) = false
-awaits (Download m size u v) (request.Abort n c) = false
+awaits (Download w u v) (request.InitiateDownload n how) = false
+awaits (Download w u v) (request.DownloadSegment t x last) = true
+awaits (Download w u v) (request.InitiateUpload n) = false
+awaits (Download w u v) (request.UploadSegment t) = false
+awaits (Download w u v) (request.InitiateBlockDownload n c z) = false
+awaits (Download w u v) (request.EndBlockDownload unused k) = false
+awaits (Download w u v) (request.Abort n c) = false
 awaits (Upload m u v) (request.InitiateDownload n how) = false
-awaits (Upload m u v) (request.DownloadSegment t w last) = false
+awaits (Upload m u v) (request.DownloadSegment t x last) = false
 awaits (Upload m u v) (request.InitiateUpload n) = false
 awaits (Upload m u v) (request.UploadSegment t) = true
 awaits (Upload m u v) (request.InitiateBlockDownload n c z) = false
 awaits (Upload m u v) (request.EndBlockDownload unused k) = false
 awaits (Upload m u v) (request.Abort n c) = false
-awaits (BlockDownload b s over v) q = false
+awaits (BlockDownload r v) q = false
 awaits (BlockEnd b v) (request.InitiateDownload n how) = false
-awaits (BlockEnd b v) (request.DownloadSegment t w last) = false
+awaits (BlockEnd b v) (request.DownloadSegment t x last) = false
 awaits (BlockEnd b v) (request.InitiateUpload n) = false
 awaits (BlockEnd b v) (request.UploadSegment t) = false
 awaits (BlockEnd b v) (request.InitiateBlockDownload n c z) = false
@@ -123,7 +123,7 @@ pub record Asks (s : State) (f : Frame) (q : Option Request) : Type 0 where
 
 -- a node without its transfer
 abbrev pub idled : State → State
-idled s = record { number = s.number; block_size = s.block_size; transfer = Idle; ticks = s.ticks; commits = s.commits }
+idled s = record s { transfer = Idle }
 
 -- a start goes as at an idle node: it replaces a transfer
 abbrev pub StartsReplace : Type 0
@@ -147,14 +147,14 @@ BlockAborted = (d : List Entry) (s : State) (f : Frame) → IsFor f s → in_blo
 -- what the start of a block write said that is not closed yet
 abbrev pub begun_by : Transfer → Option BlockStart
 begun_by Idle = None
-begun_by (Download m size u v) = None
+begun_by (Download w u v) = None
 begun_by (Upload m u v) = None
-begun_by (BlockDownload w s over v) = Some w
+begun_by (BlockDownload r v) = Some r.start
 begun_by (BlockEnd w v) = Some w
 
 -- every other frame leaves the node in its block write, whatever is wrong with it, but that a segment too many is told at the end of a sub-block
 abbrev pub Stays : BlockStart → Step → Type 0
-Stays w p = (begun_by p.next ≡ Some w) ⊎ (p ≡ refused w.multiplexor LengthTooHigh)
+Stays w p = (begun_by p.next ≡ Some w) ⊎ (p ≡ refused w.download.multiplexor LengthTooHigh)
 
 abbrev pub BlockStays : Type 0
 BlockStays = (d : List Entry) (s : State) (f : Frame) (w : BlockStart) → in_block s.transfer ≡ true → begun_by s.transfer ≡ Some w → (b 0 f.bytes ≢ 0x80) → Stays w (step d s (Some f))

@@ -23,10 +23,12 @@ use Rattle.dictionary.specs.Entries.{Entry}
 use Rattle.dictionary.specs.Verdicts.{start_verdict, write_verdict, read_verdict}
 use Rattle.dictionary.specs.Questions.{value_at}
 use Rattle.server.specs.declared.block_start.BlockStart.{BlockStart}
+use Rattle.server.specs.declared.download_start.DownloadStart.{DownloadStart}
+use Rattle.server.specs.declared.reception.Reception.{Reception}
 use Rattle.server.specs.declared.served.Served.{Served}
 use Rattle.server.specs.declared.served.Served.TheVariants.{NothingWaited, Committed, Aborted, Answered, Dropped, Kept}
 use Rattle.server.specs.Buffers.{full}
-use Rattle.server.specs.States.{State, Transfer, Idle, Download, Upload, BlockDownload, BlockEnd, is_idle, named}
+use Rattle.server.specs.States.{State, Transfer, Idle, Download, Upload, BlockDownload, BlockEnd, next_sub_block, is_idle, named}
 
 -- a value that is set at a multiplexor
 pub record Setting : Type 0 where
@@ -44,25 +46,29 @@ pub record Step : Type 0 where
 abbrev pub committed : Multiplexor → List ℕ → Answer → Step
 committed m v a = record { next = Idle; served = Committed; reply = Some a; set = Some (record { multiplexor = m; value = v }) }
 
+-- nothing is set
+abbrev pub turned : Transfer → Served → Option Answer → Step
+turned t r a = record { next = t; served = r; reply = a; set = None }
+
 -- an abort is sent: the node is idle
 abbrev pub refused : Multiplexor → AbortCode → Step
-refused m c = record { next = Idle; served = Aborted; reply = Some (answer.Abort m c); set = None }
+refused m c = turned Idle Aborted (Some (answer.Abort m c))
 
 -- an abort was heard: the node is idle and says nothing
 abbrev pub ended : Step
-ended = record { next = Idle; served = Aborted; reply = None; set = None }
+ended = turned Idle Aborted None
 
 abbrev pub answered : Transfer → Answer → Step
-answered t a = record { next = t; served = Answered; reply = Some a; set = None }
+answered t a = turned t Answered (Some a)
 
 abbrev pub dropped : Transfer → Step
-dropped t = record { next = t; served = Dropped; reply = None; set = None }
+dropped t = turned t Dropped None
 
 abbrev pub kept : Transfer → Step
-kept t = record { next = t; served = Kept; reply = None; set = None }
+kept t = turned t Kept None
 
 abbrev pub nothing : Transfer → Step
-nothing t = record { next = t; served = NothingWaited; reply = None; set = None }
+nothing t = turned t NothingWaited None
 
 -- a step, unless a verdict speaks against it
 abbrev pub unless : Option AbortCode → Multiplexor → Step → Step
@@ -80,7 +86,8 @@ unexpected t = refused (named t) UnknownCommand
 -- the start of a write: a value that comes at once is committed, for a longer one its segments are awaited
 abbrev pub start_download : List Entry → Multiplexor → coming.Transfer → Step
 start_download d m (coming.Expedited v) = commit d m v (answer.InitiateDownload m)
-start_download d m (coming.Segmented size) = unless (start_verdict d m size) m (answered (Download m size Zero []) (answer.InitiateDownload m))
+start_download d m (coming.Segmented size) =
+    unless (start_verdict d m size) m (answered (Download (record { multiplexor = m; size = size }) Zero []) (answer.InitiateDownload m))
 
 -- the start of a read: a value of up to four bytes goes into the answer, a longer one goes by segments
 abbrev pub announced : Multiplexor → List ℕ → Step
@@ -94,10 +101,10 @@ start_upload d m = unless (read_verdict d m) m (given m (value_at d m))
 
 -- the start of a block write: the node offers a CRC whatever the master does
 abbrev pub block_awaited : ℕ → BlockStart → List ℕ → Step
-block_awaited n b v = answered (BlockDownload b 1 false v) (answer.InitiateBlockDownload b.multiplexor Offered n)
+block_awaited n b v = answered (BlockDownload (next_sub_block b) v) (answer.InitiateBlockDownload b.download.multiplexor Offered n)
 
 abbrev pub start_block : List Entry → ℕ → BlockStart → Step
-start_block d n b = unless (start_verdict d b.multiplexor b.size) b.multiplexor (block_awaited n b [])
+start_block d n b = unless (start_verdict d b.download.multiplexor b.download.size) b.download.multiplexor (block_awaited n b [])
 
 -- an announced size differs from a number of bytes
 abbrev pub differs : Option ℕ → ℕ → Bool
@@ -105,23 +112,23 @@ differs None n = false
 differs (Some size) n = not (size == n)
 
 -- all bytes of a write are there: its announced size is compared, then it is committed
-abbrev pub completed : List Entry → Multiplexor → Option ℕ → List ℕ → Answer → Step
-completed d m size v a = cond (differs size (length v)) (refused m LengthMismatch) (commit d m v a)
+abbrev pub completed : List Entry → DownloadStart → List ℕ → Answer → Step
+completed d w v a = cond (differs w.size (length v)) (refused w.multiplexor LengthMismatch) (commit d w.multiplexor v a)
 
 -- a segment of a write, with which there are some bytes: their number is judged, and behind the last segment they are the value
-abbrev pub received : List Entry → Multiplexor → Option ℕ → Toggle → Bool → List ℕ → Step
-received d m size t last v =
-    cond (nat_lt 1024 (length v)) (refused m LengthTooHigh)
-    (cond last (completed d m size v (answer.DownloadSegment t))
-    (answered (Download m size (other t) v) (answer.DownloadSegment t)))
+abbrev pub received : List Entry → DownloadStart → Toggle → Bool → List ℕ → Step
+received d w t last v =
+    cond (nat_lt 1024 (length v)) (refused w.multiplexor LengthTooHigh)
+    (cond last (completed d w v (answer.DownloadSegment t))
+    (answered (Download w (other t) v) (answer.DownloadSegment t)))
 
 -- its toggle comes first
 abbrev pub download_segment : List Entry → Transfer → Toggle → List ℕ → Bool → Step
-download_segment d Idle t w last = unexpected Idle
-download_segment d (Download m size u v) t w last = cond (same_toggle t u) (received d m size t last (v ++ w)) (refused m ToggleNotAlternated)
-download_segment d (Upload m u v) t w last = unexpected (Upload m u v)
-download_segment d (BlockDownload b s over v) t w last = unexpected (BlockDownload b s over v)
-download_segment d (BlockEnd b v) t w last = unexpected (BlockEnd b v)
+download_segment d Idle t x last = unexpected Idle
+download_segment d (Download w u v) t x last = cond (same_toggle t u) (received d w t last (v ++ x)) (refused w.multiplexor ToggleNotAlternated)
+download_segment d (Upload m u v) t x last = unexpected (Upload m u v)
+download_segment d (BlockDownload r v) t x last = unexpected (BlockDownload r v)
+download_segment d (BlockEnd b v) t x last = unexpected (BlockEnd b v)
 
 -- a segment of a read: the next seven bytes, or the last ones, after which the node is idle
 abbrev pub next_segment : Multiplexor → Toggle → List ℕ → Step
@@ -132,9 +139,9 @@ next_segment m t v =
 
 abbrev pub upload_segment : Transfer → Toggle → Step
 upload_segment Idle t = unexpected Idle
-upload_segment (Download m size u v) t = unexpected (Download m size u v)
+upload_segment (Download w u v) t = unexpected (Download w u v)
 upload_segment (Upload m u v) t = cond (same_toggle t u) (next_segment m t v) (refused m ToggleNotAlternated)
-upload_segment (BlockDownload b s over v) t = unexpected (BlockDownload b s over v)
+upload_segment (BlockDownload r v) t = unexpected (BlockDownload r v)
 upload_segment (BlockEnd b v) t = unexpected (BlockEnd b v)
 
 -- the CRC of a block write's end is wrong; it is compared only where the master offered one
@@ -144,14 +151,14 @@ crc_differs NotOffered k v = false
 
 -- the end of a block write with its bytes: their CRC, then their announced number, then the commit
 abbrev pub closed : List Entry → BlockStart → ℕ → List ℕ → Step
-closed d b k v = cond (crc_differs b.crc k v) (refused b.multiplexor CrcError) (completed d b.multiplexor b.size v answer.EndBlockDownload)
+closed d b k v = cond (crc_differs b.crc k v) (refused b.download.multiplexor CrcError) (completed d b.download v answer.EndBlockDownload)
 
 -- the bytes of its segments without those that the last one does not use
 abbrev pub block_end : List Entry → Transfer → ℕ → ℕ → Step
 block_end d Idle n k = unexpected Idle
-block_end d (Download m size u v) n k = unexpected (Download m size u v)
+block_end d (Download w u v) n k = unexpected (Download w u v)
 block_end d (Upload m u v) n k = unexpected (Upload m u v)
-block_end d (BlockDownload b s over v) n k = unexpected (BlockDownload b s over v)
+block_end d (BlockDownload r v) n k = unexpected (BlockDownload r v)
 block_end d (BlockEnd b v) n k = closed d b k (take (length v - n) v)
 
 -- an abort ends a transfer without an answer; without one it is dropped
@@ -164,7 +171,7 @@ asked d n t (request.InitiateDownload m how) = start_download d m how
 asked d n t (request.DownloadSegment u w last) = download_segment d t u w last
 asked d n t (request.InitiateUpload m) = start_upload d m
 asked d n t (request.UploadSegment u) = upload_segment t u
-asked d n t (request.InitiateBlockDownload m c size) = start_block d n (record { multiplexor = m; size = size; crc = c })
+asked d n t (request.InitiateBlockDownload m c size) = start_block d n (record { download = record { multiplexor = m; size = size }; crc = c })
 asked d n t (request.EndBlockDownload unused k) = block_end d t unused k
 asked d n t (request.Abort m c) = aborted t
 
@@ -177,44 +184,45 @@ understood d n t (Some q) = asked d n t q
 abbrev pub ends : ℕ → Bool → ℕ → Bool
 ends n last k = last || k == n
 
-module _ (n : ℕ) (b : BlockStart) where
+module _ (n : ℕ) where
   -- the segment that is awaited is kept; at the end of its sub-block its number is acknowledged
-  abbrev pub keep : Bool → ℕ → List ℕ → Step
-  keep last k v =
+  abbrev pub keep : BlockStart → Bool → ℕ → List ℕ → Step
+  keep b last k v =
       cond last (answered (BlockEnd b v) (answer.AcknowledgeBlock k n))
-      (cond (k == n) (answered (BlockDownload b 1 false v) (answer.AcknowledgeBlock k n))
-      (kept (BlockDownload b (k + 1) false v)))
+      (cond (k == n) (answered (BlockDownload (next_sub_block b) v) (answer.AcknowledgeBlock k n))
+      (kept (BlockDownload (record { start = b; expected = k + 1; spoiled = false }) v)))
 
-  -- another one is dropped; at the end of a sub-block the last number that was kept is acknowledged
-  abbrev pub pass_over : ℕ → List ℕ → Bool → ℕ → Step
-  pass_over s v last k =
-      cond (ends n last k)
-      (answered (BlockDownload b 1 false v) (answer.AcknowledgeBlock (s - 1) n))
-      (dropped (BlockDownload b s false v))
+  module _ (r : Reception) where
+    -- another one is dropped; at the end of a sub-block the last number that was kept is acknowledged
+    abbrev pub pass_over : List ℕ → Bool → ℕ → Step
+    pass_over v last k =
+        cond (ends n last k)
+        (answered (BlockDownload (next_sub_block r.start) v) (answer.AcknowledgeBlock (r.expected - 1) n))
+        (dropped (BlockDownload r v))
 
-  -- there was one too many: that is told at the end of the sub-block
-  abbrev pub spoil : ℕ → List ℕ → Bool → ℕ → Step
-  spoil s v last k = cond (ends n last k) (refused b.multiplexor LengthTooHigh) (dropped (BlockDownload b s true v))
+    -- there was one too many: that is told at the end of the sub-block
+    abbrev pub spoil : List ℕ → Bool → ℕ → Step
+    spoil v last k = cond (ends n last k) (refused r.start.download.multiplexor LengthTooHigh) (dropped (BlockDownload (record r { spoiled = true }) v))
 
-  -- a block segment
-  abbrev pub block_segment : ℕ → Bool → List ℕ → Bool → ℕ → List ℕ → Step
-  block_segment s over v last k w =
-      cond over (spoil s v last k)
-      (cond (k == s)
-      (cond (full v) (spoil s v last k) (keep last k (v ++ w)))
-      (pass_over s v last k))
+    -- a block segment
+    abbrev pub block_segment : List ℕ → Bool → ℕ → List ℕ → Step
+    block_segment v last k x =
+        cond r.spoiled (spoil v last k)
+        (cond (k == r.expected)
+        (cond (full v) (spoil v last k) (keep r.start last k (v ++ x)))
+        (pass_over v last k))
 
-  -- a message while block segments come in
-  abbrev pub asked_in_block : ℕ → Bool → List ℕ → BlockRequest → Step
-  asked_in_block s over v (block.Segment last k w) = block_segment s over v last k w
-  asked_in_block s over v (block.Abort m c) = ended
+    -- a message while block segments come in
+    abbrev pub asked_in_block : List ℕ → BlockRequest → Step
+    asked_in_block v (block.Segment last k x) = block_segment v last k x
+    asked_in_block v (block.Abort m c) = ended
 
 -- a frame's bytes: one reader while block segments come in, another elsewhere
 abbrev pub heard : List Entry → ℕ → Transfer → List ℕ → Step
 heard d n Idle bytes = understood d n Idle (request_in bytes)
-heard d n (Download m size u v) bytes = understood d n (Download m size u v) (request_in bytes)
+heard d n (Download w u v) bytes = understood d n (Download w u v) (request_in bytes)
 heard d n (Upload m u v) bytes = understood d n (Upload m u v) (request_in bytes)
-heard d n (BlockDownload b s over v) bytes = asked_in_block n b s over v (block_request_in bytes)
+heard d n (BlockDownload r v) bytes = asked_in_block n r v (block_request_in bytes)
 heard d n (BlockEnd b v) bytes = understood d n (BlockEnd b v) (request_in bytes)
 
 -- a frame with another identifier than the node's is dropped

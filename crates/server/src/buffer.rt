@@ -1,16 +1,27 @@
 //! Where a node keeps the bytes of a transfer.
-ghost use Rattle.std.specs.Prelude.{◌≡◌, ◌≤◌, length};
+use std::marker::Model;
 
 mod methods;
 
 /// How many bytes a buffer has: 147 segments of seven, enough for 1,024 bytes and what fills up the last segment.
 const ROOM: usize = 1029;
 
-/// Up to 1,029 bytes.
+// An array with a length beside it: the stack has no heap, and what it holds is bounded.
+/// Up to 1,029 bytes, which contracts see as the list of those that are held.
 #[derive(Drop)]
 pub struct Buffer {
     bytes: [u8; ROOM],
     len: usize,
-    ghost size: { length bytes ≡ 1029 },
-    ghost bound: { len ≤ 1029 },
+}
+
+impl Model for Buffer {
+    ghost use Rattle.std.specs.Prelude.{ℕ, List};
+
+    ghost Value = { List ℕ };
+
+    ghost use Rattle.server.specs.Buffers.{held, Sound};
+
+    ghost view = { held };
+
+    ghost invariant = { Sound };
 }

@@ -1,11 +1,16 @@
 //! The node: the SDO server of CiA 301, which sets and reads the values of its dictionary as a master asks.
 #![tactic(auto)]
 
+mod block_segment;
 mod block_start;
 mod buffer;
+mod delivery;
+mod download_segment;
+mod download_start;
 mod laws;
 mod node;
 mod reaction;
+mod reception;
 mod served;
 mod transfer;
 

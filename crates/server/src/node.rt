@@ -15,6 +15,7 @@ mod time;
 mod turns;
 mod writing;
 
+// It has no model: that would be the state alone, and the steps' contracts also speak of what the buffer holds outside a transfer.
 /// A node by its number and the size of its sub-blocks, what it is doing, the ticks since it took a frame, and how many values it has set, modulo 65,536.
 #[derive(Drop)]
 pub struct Node {
@@ -43,14 +44,14 @@ impl Node {
 
     /// The node's number.
     pub fn number(&self) -> NodeNumber
-        ensures { result ≡ (shown self.now).number }
+        ensures { result ≡ self.now.number }
     {
         self.number
     }
 
     /// How many values the node has set, modulo 65,536.
     pub fn commits(&self) -> u16
-        ensures { result ≡ (shown self.now).commits }
+        ensures { result ≡ self.now.commits }
     {
         self.commits
     }
@@ -59,12 +60,6 @@ impl Node {
     pub fn is_idle(&self) -> bool
         ensures { result ≡ is_idle (shown self.now).transfer }
     {
-        match self.transfer {
-            Transfer::Idle => true,
-            Transfer::Download { .. } => false,
-            Transfer::Upload { .. } => false,
-            Transfer::BlockDownload { .. } => false,
-            Transfer::BlockEnd { .. } => false,
-        }
+        matches!(self.transfer, Transfer::Idle)
     }
 }

@@ -1,7 +1,6 @@
 //! Block writes.
-use crate::setup::{Setup, Turn, check_run};
+use crate::setup::{Turn, begun, check_run};
 use server::Served;
-use std::process::Abort;
 use std::test::Fail;
 
 /// The start of a block write of nine bytes to 2001:00, with a CRC.
@@ -32,6 +31,11 @@ const END: Turn = Turn(
     Some([0xa1, 0, 0, 0, 0, 0, 0, 0]),
 );
 
+/// A segment that is kept within a sub-block.
+fn kept(command: u8) -> Turn {
+    Turn([command, 9, 9, 9, 9, 9, 9, 9], Served::Kept, None)
+}
+
 /// A segment that is dropped within a sub-block.
 fn dropped(command: u8) -> Turn {
     Turn([command, 9, 9, 9, 9, 9, 9, 9], Served::Dropped, None)
@@ -44,20 +48,6 @@ fn answered(command: u8, kept: u8, block_size: u8) -> Turn {
         Served::Answered,
         Some([0xa2, kept, block_size, 0, 0, 0, 0, 0]),
     )
-}
-
-/// A node with a block size that has begun a block write to 2001:00.
-fn begun(rt: &impl Abort, block_size: u8) -> Result<Setup, Fail> {
-    let mut setup = Setup::new(block_size);
-    setup.check(
-        rt,
-        Turn(
-            [0xc4, 1, 0x20, 0, 0, 0, 0, 0],
-            Served::Answered,
-            Some([0xa4, 1, 0x20, 0, block_size, 0, 0, 0]),
-        ),
-    )?;
-    Ok(setup)
 }
 
 #[test]
@@ -218,9 +208,7 @@ fn a_start_replaces_a_block_write_that_awaits_its_end(rt: HostRuntime) -> Result
 #[test]
 fn a_148th_segment_spoils_the_transfer(rt: HostRuntime) -> Result<(), Fail> {
     let mut setup = begun(&rt, 1)?;
-    for _ in 0..147 {
-        setup.check(&rt, answered(1, 1, 1))?;
-    }
+    setup.check_times(&rt, 147, &[answered(1, 1, 1)])?;
     setup.check_all(
         &rt,
         &[
@@ -237,12 +225,19 @@ fn a_148th_segment_spoils_the_transfer(rt: HostRuntime) -> Result<(), Fail> {
 #[test]
 fn a_spoiled_transfer_is_told_at_the_end_of_its_sub_block(rt: HostRuntime) -> Result<(), Fail> {
     let mut setup = begun(&rt, 7)?;
-    for _ in 0..21 {
-        for number in 1..7u8 {
-            setup.check(&rt, Turn([number, 9, 9, 9, 9, 9, 9, 9], Served::Kept, None))?;
-        }
-        setup.check(&rt, answered(7, 7, 7))?;
-    }
+    setup.check_times(
+        &rt,
+        21,
+        &[
+            kept(1),
+            kept(2),
+            kept(3),
+            kept(4),
+            kept(5),
+            kept(6),
+            answered(7, 7, 7),
+        ],
+    )?;
     setup.check_all(
         &rt,
         &[

@@ -194,24 +194,22 @@ fn what_another_transfer_awaits_is_refused(rt: HostRuntime) -> Result<(), Fail> 
 fn nearly_full(rt: &impl Abort) -> Result<Setup, Fail> {
     let mut setup = Setup::new(127);
     setup.check(rt, START_UNKNOWN)?;
-    for _ in 0..73 {
-        setup.check(
-            rt,
+    setup.check_times(
+        rt,
+        73,
+        &[
             Turn(
                 [0, 1, 2, 3, 4, 5, 6, 7],
                 Served::Answered,
                 Some([0x20, 0, 0, 0, 0, 0, 0, 0]),
             ),
-        )?;
-        setup.check(
-            rt,
             Turn(
                 [0x10, 1, 2, 3, 4, 5, 6, 7],
                 Served::Answered,
                 Some([0x30, 0, 0, 0, 0, 0, 0, 0]),
             ),
-        )?;
-    }
+        ],
+    )?;
     Ok(setup)
 }
 

@@ -46,11 +46,38 @@ impl Setup {
 
     /// Checks some turns, one after the other.
     pub(crate) fn check_all(&mut self, rt: &impl Abort, turns: &[Turn]) -> Result<(), Fail> {
-        for turn in turns {
-            self.check(rt, *turn)?;
+        for &turn in turns {
+            self.check(rt, turn)?;
         }
         Ok(())
     }
+
+    /// Checks the same turns some times over.
+    pub(crate) fn check_times(
+        &mut self,
+        rt: &impl Abort,
+        times: usize,
+        turns: &[Turn],
+    ) -> Result<(), Fail> {
+        for _ in 0..times {
+            self.check_all(rt, turns)?;
+        }
+        Ok(())
+    }
+}
+
+/// A node with a block size that has begun a block write to 2001:00.
+pub(crate) fn begun(rt: &impl Abort, block_size: u8) -> Result<Setup, Fail> {
+    let mut setup = Setup::new(block_size);
+    setup.check(
+        rt,
+        Turn(
+            [0xc4, 1, 0x20, 0, 0, 0, 0, 0],
+            Served::Answered,
+            Some([0xa4, 1, 0x20, 0, block_size, 0, 0, 0]),
+        ),
+    )?;
+    Ok(setup)
 }
 
 /// Checks that a frame is the node's and has some bytes, or that there is none.
@@ -59,17 +86,9 @@ pub(crate) fn check_reply(
     reply: Option<Frame>,
     bytes: Option<[u8; 8]>,
 ) -> Result<(), Fail> {
-    match reply {
-        Some(frame) => {
-            assert_eq!(rt; frame.identifier.number(), 0x585);
-            assert_eq!(rt; Some(frame.bytes), bytes);
-            Ok(())
-        }
-        None => {
-            assert!(rt; bytes.is_none());
-            Ok(())
-        },
-    }
+    assert!(rt; reply.is_none_or(|frame| frame.identifier.number() == 0x585));
+    assert_eq!(rt; reply.map(|frame| frame.bytes), bytes);
+    Ok(())
 }
 
 /// Checks some turns at a new node with sub-blocks of 127 segments.

@@ -3,7 +3,7 @@ ghost use Rattle.std.specs.Prelude.{◌≡◌, ◌+◌, ◌-◌, ◌≤◌, [], 
 ghost use Rattle.dictionary.specs.Commits.{decided};
 ghost use Rattle.dictionary.specs.Questions.{value_at};
 ghost use Rattle.dictionary.specs.Verdicts.{read_verdict};
-ghost use Rattle.server.specs.Buffers.{held as held_bytes, full};
+ghost use Rattle.server.specs.Buffers.{full, code_of};
 
 use super::{Buffer, ROOM};
 use dictionary::{CopyRefusal, Readable};
@@ -12,7 +12,7 @@ use wire::{AbortCode, Multiplexor};
 impl Buffer {
     /// A buffer that holds nothing.
     pub(crate) fn new() -> Buffer
-        ensures { held_bytes result ≡ [] }
+        ensures { result ≡ [] }
     {
         Buffer {
             bytes: [0; ROOM],
@@ -22,14 +22,15 @@ impl Buffer {
 
     /// The bytes that are held.
     pub(crate) fn held(&self) -> &[u8]
-        ensures { result.now ≡ held_bytes self.now }
+        ensures { result.now ≡ self.now }
     {
-        &self.bytes[0..self.len]
+        &self.bytes[..self.len]
     }
 
     /// The bytes that are held behind the first few.
     pub(crate) fn rest(&self, given: usize) -> &[u8]
-        ensures { result.now ≡ drop given (held_bytes self.now) }
+        ensures value { result.now ≡ drop given self.now }
+        ensures bound { length self.now ≤ 1029 }
     {
         if given < self.len {
             &self.bytes[given..self.len]
@@ -40,7 +41,7 @@ impl Buffer {
 
     /// How many bytes are held.
     pub(crate) fn len(&self) -> usize
-        ensures value { result ≡ length (held_bytes self.now) }
+        ensures value { result ≡ length self.now }
         ensures bound { result ≤ 1029 }
     {
         self.len
@@ -48,22 +49,22 @@ impl Buffer {
 
     /// Whether no further segment of seven bytes has room.
     pub(crate) fn is_full(&self) -> bool
-        ensures { result ≡ full (held_bytes self.now) }
+        ensures { result ≡ full self.now }
     {
         self.len + 7 > ROOM
     }
 
     /// Holds nothing any more.
     pub(crate) fn clear(&mut self)
-        ensures { held_bytes self.new ≡ [] }
+        ensures { self.new ≡ [] }
     {
         self.len = 0;
     }
 
     /// Holds some bytes more behind the others.
     pub(crate) fn append(&mut self, more: &[u8])
-        requires { length (held_bytes self.old) + length more.now ≤ 1029 }
-        ensures { held_bytes self.new ≡ held_bytes self.old ++ more.now }
+        requires { length self.old + length more.now ≤ 1029 }
+        ensures { self.new ≡ self.old ++ more.now }
     {
         let end = self.len + more.len();
         self.bytes[self.len..end].copy_from_slice(more);
@@ -73,7 +74,7 @@ impl Buffer {
     /// Holds some bytes and nothing else.
     pub(crate) fn hold(&mut self, bytes: &[u8])
         requires { length bytes.now ≤ 1029 }
-        ensures { held_bytes self.new ≡ bytes.now }
+        ensures { self.new ≡ bytes.now }
     {
         self.clear();
         self.append(bytes);
@@ -81,7 +82,7 @@ impl Buffer {
 
     /// Holds some bytes fewer: the last ones are let go.
     pub(crate) fn shorten(&mut self, unused: usize)
-        ensures { held_bytes self.new ≡ take (length (held_bytes self.old) - unused) (held_bytes self.old) }
+        ensures { self.new ≡ take (length self.old - unused) self.old }
     {
         self.len = self.len.saturating_sub(unused);
     }
@@ -93,17 +94,22 @@ impl Buffer {
         multiplexor: Multiplexor,
     ) -> Result<(), AbortCode>
         ensures answer { result ≡ decided (read_verdict (D.Readable.meaning dictionary.now) multiplexor) }
-        ensures after { read_verdict (D.Readable.meaning dictionary.now) multiplexor ≡ None → held_bytes self.new ≡ value_at (D.Readable.meaning dictionary.now) multiplexor }
+        ensures after { read_verdict (D.Readable.meaning dictionary.now) multiplexor ≡ None → self.new ≡ value_at (D.Readable.meaning dictionary.now) multiplexor }
     {
-        match dictionary.copy_value(multiplexor, &mut self.bytes) {
-            Ok(len) => {
-                self.len = len;
-                Ok(())
-            }
-            Err(refusal) => match refusal {
-                CopyRefusal::Verdict(code) => Err(code),
-                CopyRefusal::ShortBuffer => Err(AbortCode::OutOfMemory),
-            },
-        }
+        let len = dictionary
+            .copy_value(multiplexor, &mut self.bytes)
+            .map_err(code)?;
+        self.len = len;
+        Ok(())
+    }
+}
+
+/// The abort code of a refused copy.
+fn code(refusal: CopyRefusal) -> AbortCode
+    ensures { result ≡ code_of refusal }
+{
+    match refusal {
+        CopyRefusal::Verdict(code) => code,
+        CopyRefusal::ShortBuffer => AbortCode::OutOfMemory,
     }
 }

@@ -6,6 +6,8 @@ ghost use Rattle.server.specs.Steps.{aborted as aborted-step, asked as asked-ste
 
 use super::Node;
 use crate::block_start::BlockStart;
+use crate::download_segment::DownloadSegment;
+use crate::download_start::DownloadStart;
 use crate::reaction::Reaction;
 use crate::served::Served;
 use crate::transfer::Transfer;
@@ -15,8 +17,9 @@ use wire::{Frame, Identifier};
 
 impl Node {
     /// Serves a frame that was taken from the line, or none where none waited, over the node's dictionary.
+    #[tactic(auto, using(crate::proofs::Turning::serving), unfolding(crate::specs::Steps::step))]
     pub fn serve<D: Writable>(&mut self, dictionary: &mut D, taken: Option<Frame>) -> Reaction
-        ensures { Serves taken (shown self.old) (shown self.new) (D.Readable.meaning dictionary.old) (D.Readable.meaning dictionary.new) result }
+        ensures { Serves D.Readable.meaning taken self.old self.new dictionary.old dictionary.new result }
     {
         match taken {
             Some(frame) => self.take(dictionary, frame),
@@ -29,9 +32,9 @@ impl Node {
 
     /// Takes a frame: one with another identifier than the node's is dropped.
     fn take<D: Writable>(&mut self, dictionary: &mut D, frame: Frame) -> Reaction
-        ensures { Does (taken-step (D.Readable.meaning dictionary.old) (shown self.old) frame) (shown self.old) (shown self.new) (D.Readable.meaning dictionary.old) (D.Readable.meaning dictionary.new) result }
+        ensures { Does D.Readable.meaning (λ d. taken-step d (shown self.old) frame) self.old self.new dictionary.old dictionary.new result }
     {
-        if frame.identifier.number() != Identifier::of_requests(self.number).number() {
+        if frame.identifier != Identifier::of_requests(self.number) {
             return self.ignore();
         }
         self.hear(dictionary, frame.bytes)
@@ -39,22 +42,17 @@ impl Node {
 
     /// Reads a frame's bytes: one way while block segments come in, another elsewhere.
     fn hear<D: Writable>(&mut self, dictionary: &mut D, bytes: [u8; 8]) -> Reaction
-        ensures { Does (heard (D.Readable.meaning dictionary.old) (shown self.old).block_size.number (shown self.old).transfer bytes) (shown self.old) (shown self.new) (D.Readable.meaning dictionary.old) (D.Readable.meaning dictionary.new) result }
+        ensures { Does D.Readable.meaning (λ d. heard d self.old.block_size.number (shown self.old).transfer bytes) self.old self.new dictionary.old dictionary.new result }
     {
-        if let Transfer::BlockDownload {
-            start,
-            expected,
-            spoiled,
-        } = self.transfer
-        {
-            return self.asked_in_block(start, expected, spoiled, BlockRequest::from_bytes(bytes));
+        if let Transfer::BlockDownload { reception } = self.transfer {
+            return self.asked_in_block(reception, BlockRequest::from_bytes(bytes));
         }
         self.understood(dictionary, Request::from_bytes(bytes))
     }
 
     /// A request in any state but while block segments come in, or none that is known.
     fn understood<D: Writable>(&mut self, dictionary: &mut D, request: Option<Request>) -> Reaction
-        ensures { Does (understood-step (D.Readable.meaning dictionary.old) (shown self.old).block_size.number (shown self.old).transfer (option_map shown_request request)) (shown self.old) (shown self.new) (D.Readable.meaning dictionary.old) (D.Readable.meaning dictionary.new) result }
+        ensures { Does D.Readable.meaning (λ d. understood-step d self.old.block_size.number (shown self.old).transfer (option_map shown_request request)) self.old self.new dictionary.old dictionary.new result }
     {
         match request {
             Some(request) => self.asked(dictionary, request),
@@ -64,7 +62,7 @@ impl Node {
 
     /// A request in any state but while block segments come in: a start replaces a transfer.
     fn asked<D: Writable>(&mut self, dictionary: &mut D, request: Request) -> Reaction
-        ensures { Does (asked-step (D.Readable.meaning dictionary.old) (shown self.old).block_size.number (shown self.old).transfer (shown_request request)) (shown self.old) (shown self.new) (D.Readable.meaning dictionary.old) (D.Readable.meaning dictionary.new) result }
+        ensures { Does D.Readable.meaning (λ d. asked-step d self.old.block_size.number (shown self.old).transfer (shown_request request)) self.old self.new dictionary.old dictionary.new result }
     {
         match request {
             Request::InitiateDownload {
@@ -72,7 +70,8 @@ impl Node {
                 transfer,
             } => self.start_download(dictionary, multiplexor, transfer),
             Request::DownloadSegment { toggle, data, last } => self.download_segment(
-                dictionary, toggle, data, last,
+                dictionary,
+                DownloadSegment { toggle, data, last },
             ),
             Request::InitiateUpload { multiplexor } => self.start_upload(dictionary, multiplexor),
             Request::UploadSegment { toggle } => self.upload_segment(toggle),
@@ -83,8 +82,7 @@ impl Node {
             } => self.start_block(
                 dictionary,
                 BlockStart {
-                    multiplexor,
-                    size,
+                    download: DownloadStart { multiplexor, size },
                     crc,
                 },
             ),
@@ -95,7 +93,7 @@ impl Node {
 
     /// An abort ends a transfer; without one it is dropped.
     fn aborted(&mut self) -> Reaction
-        ensures { Turns (aborted-step (shown self.old).transfer) (shown self.old) (shown self.new) result }
+        ensures { Turns (aborted-step (shown self.old).transfer) self.old self.new result }
     {
         if self.is_idle() {
             self.ignore()

@@ -16,8 +16,9 @@ const PATIENCE: u8 = 25;
 
 impl Node {
     /// Lets a tick pass: the abort with which a node ends its transfer that took no frame for 25 ticks.
+    #[tactic(auto, unfolding(crate::specs::Nodes::tick))]
     pub fn tick(&mut self) -> Option<Frame>
-        ensures { Ticks (shown self.old) (shown self.new) result }
+        ensures { Ticks self.old self.new result }
     {
         if self.is_idle() {
             return None;
@@ -31,7 +32,8 @@ impl Node {
 
     /// Ends the transfer by an abort.
     fn time_out(&mut self) -> Frame
-        ensures { (result ≡ answer_frame self.old.number (Abort (named-by (shown self.old).transfer) TimedOut)) × (shown self.new ≡ (timed_out (shown self.old)).next) }
+        ensures answer { result ≡ answer_frame self.old.number (Abort (named-by (shown self.old).transfer) TimedOut) }
+        ensures node { shown self.new ≡ (timed_out (shown self.old)).next }
     {
         let abort = Answer::Abort {
             multiplexor: self.named(),

@@ -1,10 +1,9 @@
 //! How a node goes on after a frame: with which transfer, and with which answer.
 ghost use Rattle.std.specs.Prelude.{◌≡◌, Some, None};
 ghost use Rattle.sdo.specs.Answers.{shown_answer};
-ghost use Rattle.server.specs.Buffers.{held};
 ghost use Rattle.server.specs.Nodes.{Turns, Does, shown, shown_transfer};
 ghost use Rattle.server.specs.States.{named as named-by};
-ghost use Rattle.server.specs.Steps.{commit as commit-step, refused, ended, dropped, unexpected as unexpected-step};
+ghost use Rattle.server.specs.Steps.{turned, commit as commit-step, refused, ended, dropped, unexpected as unexpected-step};
 
 use super::Node;
 use crate::reaction::Reaction;
@@ -27,16 +26,16 @@ impl Node {
     {
         match self.transfer {
             Transfer::Idle => NOWHERE,
-            Transfer::Download { multiplexor, .. } => multiplexor,
-            Transfer::Upload { multiplexor, .. } => multiplexor,
-            Transfer::BlockDownload { start, .. } => start.multiplexor,
-            Transfer::BlockEnd { start } => start.multiplexor,
+            Transfer::Download { start, .. } => start.multiplexor,
+            Transfer::Upload { delivery } => delivery.multiplexor,
+            Transfer::BlockDownload { reception } => reception.start.download.multiplexor,
+            Transfer::BlockEnd { start } => start.download.multiplexor,
         }
     }
 
     /// Goes on with a transfer and sends nothing.
     pub(super) fn go_on(&mut self, next: Transfer, served: Served) -> Reaction
-        ensures { Turns (record { next = shown_transfer next (held self.old.buffer); served = served; reply = None; set = None }) (shown self.old) (shown self.new) result }
+        ensures { Turns (turned (shown_transfer next self.old.buffer) served None) self.old self.new result }
     {
         self.transfer = next;
         self.ticks = 0;
@@ -48,7 +47,7 @@ impl Node {
 
     /// Goes on with a transfer and sends an answer.
     pub(super) fn send(&mut self, next: Transfer, served: Served, answer: Answer) -> Reaction
-        ensures { Turns (record { next = shown_transfer next (held self.old.buffer); served = served; reply = Some (shown_answer answer); set = None }) (shown self.old) (shown self.new) result }
+        ensures { Turns (turned (shown_transfer next self.old.buffer) served (Some (shown_answer answer))) self.old self.new result }
     {
         self.transfer = next;
         self.ticks = 0;
@@ -60,7 +59,7 @@ impl Node {
 
     /// Sends an abort and is idle.
     pub(super) fn refuse(&mut self, multiplexor: Multiplexor, code: AbortCode) -> Reaction
-        ensures { Turns (refused multiplexor code) (shown self.old) (shown self.new) result }
+        ensures { Turns (refused multiplexor code) self.old self.new result }
     {
         self.send(
             Transfer::Idle,
@@ -71,14 +70,14 @@ impl Node {
 
     /// Is idle after an abort that was heard.
     pub(super) fn end(&mut self) -> Reaction
-        ensures { Turns ended (shown self.old) (shown self.new) result }
+        ensures { Turns ended self.old self.new result }
     {
         self.go_on(Transfer::Idle, Served::Aborted)
     }
 
     /// Stays in its transfer.
     pub(super) fn ignore(&mut self) -> Reaction
-        ensures { Turns (dropped (shown self.old).transfer) (shown self.old) (shown self.new) result }
+        ensures { Turns (dropped (shown self.old).transfer) self.old self.new result }
     {
         let transfer = self.transfer;
         self.go_on(transfer, Served::Dropped)
@@ -86,7 +85,7 @@ impl Node {
 
     /// Refuses a message that is not awaited.
     pub(super) fn unexpected(&mut self) -> Reaction
-        ensures { Turns (unexpected-step (shown self.old).transfer) (shown self.old) (shown self.new) result }
+        ensures { Turns (unexpected-step (shown self.old).transfer) self.old self.new result }
     {
         let multiplexor = self.named();
         self.refuse(multiplexor, AbortCode::UnknownCommand)
@@ -99,7 +98,7 @@ impl Node {
         multiplexor: Multiplexor,
         answer: Answer,
     ) -> Reaction
-        ensures { Does (commit-step (D.Readable.meaning dictionary.old) multiplexor (held self.old.buffer) (shown_answer answer)) (shown self.old) (shown self.new) (D.Readable.meaning dictionary.old) (D.Readable.meaning dictionary.new) result }
+        ensures { Does D.Readable.meaning (λ d. commit-step d multiplexor self.old.buffer (shown_answer answer)) self.old self.new dictionary.old dictionary.new result }
     {
         match dictionary.commit(multiplexor, self.buffer.held()) {
             Ok(()) => {

@@ -3,16 +3,17 @@ ghost use Rattle.std.specs.Prelude.{◌≡◌, ◌++◌};
 ghost use Rattle.sdo.specs.Answers.{shown_answer};
 ghost use Rattle.sdo.specs.Segments.{data_value};
 ghost use Rattle.sdo.specs.Transfers.{Segmented, shown_transfer as shown-coming};
-ghost use Rattle.server.specs.Buffers.{held};
 ghost use Rattle.server.specs.Nodes.{Turns, Does, shown};
 ghost use Rattle.server.specs.Steps.{start_download, differs as differs-from, completed, received, download_segment};
 
 use super::Node;
+use crate::download_segment::DownloadSegment;
+use crate::download_start::DownloadStart;
 use crate::reaction::Reaction;
 use crate::served::Served;
 use crate::transfer::Transfer;
 use dictionary::{Readable, Writable, start_verdict};
-use sdo::{Answer, SegmentData, Toggle};
+use sdo::{Answer, Toggle};
 use wire::{AbortCode, Multiplexor};
 
 /// How many bytes a value has at most.
@@ -26,7 +27,7 @@ impl Node {
         multiplexor: Multiplexor,
         transfer: sdo::Transfer,
     ) -> Reaction
-        ensures { Does (start_download (D.Readable.meaning dictionary.old) multiplexor (shown-coming transfer)) (shown self.old) (shown self.new) (D.Readable.meaning dictionary.old) (D.Readable.meaning dictionary.new) result }
+        ensures { Does D.Readable.meaning (λ d. start_download d multiplexor (shown-coming transfer)) self.old self.new dictionary.old dictionary.new result }
     {
         match transfer {
             sdo::Transfer::Expedited { data } => {
@@ -37,83 +38,67 @@ impl Node {
                     Answer::InitiateDownload { multiplexor },
                 )
             }
-            sdo::Transfer::Segmented { size } => self.start_segments(dictionary, multiplexor, size),
+            sdo::Transfer::Segmented { size } => {
+                self.start_segments(dictionary, DownloadStart { multiplexor, size })
+            },
         }
     }
 
     /// The start of a write in segments: they are awaited, unless the dictionary has a verdict on the write already.
-    fn start_segments<D: Readable>(
-        &mut self,
-        dictionary: &D,
-        multiplexor: Multiplexor,
-        size: Option<u32>,
-    ) -> Reaction
-        ensures { Turns (start_download (D.Readable.meaning dictionary.now) multiplexor (Segmented size)) (shown self.old) (shown self.new) result }
+    fn start_segments<D: Readable>(&mut self, dictionary: &D, start: DownloadStart) -> Reaction
+        ensures { Turns (start_download (D.Readable.meaning dictionary.now) start.multiplexor (Segmented start.size)) self.old self.new result }
     {
-        match start_verdict(dictionary, multiplexor, size) {
-            Some(code) => self.refuse(multiplexor, code),
-            None => {
-                self.buffer.clear();
-                self.send(
-                    Transfer::Download {
-                        multiplexor,
-                        size,
-                        toggle: Toggle::Zero,
-                    },
-                    Served::Answered,
-                    Answer::InitiateDownload { multiplexor },
-                )
-            }
+        if let Some(code) = start_verdict(dictionary, start.multiplexor, start.size) {
+            return self.refuse(start.multiplexor, code);
         }
+        self.buffer.clear();
+        let next = Transfer::Download {
+            start,
+            toggle: Toggle::Zero,
+        };
+        let answer = Answer::InitiateDownload {
+            multiplexor: start.multiplexor,
+        };
+        self.send(next, Served::Answered, answer)
     }
 
     /// A segment of a write: its toggle is judged, then its data is taken.
     pub(super) fn download_segment<D: Writable>(
         &mut self,
         dictionary: &mut D,
-        toggle: Toggle,
-        data: SegmentData,
-        last: bool,
+        segment: DownloadSegment,
     ) -> Reaction
-        ensures { Does (download_segment (D.Readable.meaning dictionary.old) (shown self.old).transfer toggle (data_value «data») last) (shown self.old) (shown self.new) (D.Readable.meaning dictionary.old) (D.Readable.meaning dictionary.new) result }
+        ensures { Does D.Readable.meaning (λ d. download_segment d (shown self.old).transfer segment.toggle (data_value segment.data) segment.last) self.old self.new dictionary.old dictionary.new result }
     {
-        let Transfer::Download {
-            multiplexor,
-            size,
-            toggle: expected,
-        } = self.transfer
-        else {
+        let Transfer::Download { start, toggle } = self.transfer else {
             return self.unexpected();
         };
-        if toggle != expected {
-            return self.refuse(multiplexor, AbortCode::ToggleNotAlternated);
+        if segment.toggle != toggle {
+            return self.refuse(start.multiplexor, AbortCode::ToggleNotAlternated);
         }
-        self.receive(dictionary, multiplexor, size, toggle, data, last)
+        self.receive(dictionary, start, segment)
     }
 
     /// The data of a segment: it is kept behind what is there, and behind the last segment the value is complete.
     fn receive<D: Writable>(
         &mut self,
         dictionary: &mut D,
-        multiplexor: Multiplexor,
-        size: Option<u32>,
-        toggle: Toggle,
-        data: SegmentData,
-        last: bool,
+        start: DownloadStart,
+        segment: DownloadSegment,
     ) -> Reaction
-        ensures { Does (received (D.Readable.meaning dictionary.old) multiplexor size toggle last (held self.old.buffer ++ data_value «data»)) (shown self.old) (shown self.new) (D.Readable.meaning dictionary.old) (D.Readable.meaning dictionary.new) result }
+        ensures { Does D.Readable.meaning (λ d. received d start segment.toggle segment.last (self.old.buffer ++ data_value segment.data)) self.old self.new dictionary.old dictionary.new result }
     {
-        if self.buffer.len() + data.value().len() > LONGEST {
-            return self.refuse(multiplexor, AbortCode::LengthTooHigh);
+        let toggle = segment.toggle;
+        if self.buffer.len() + segment.data.value().len() > LONGEST {
+            return self.refuse(start.multiplexor, AbortCode::LengthTooHigh);
         }
-        self.buffer.append(data.value());
+        self.buffer.append(segment.data.value());
         let answer = Answer::DownloadSegment { toggle };
-        if last {
-            return self.complete(dictionary, multiplexor, size, answer);
+        if segment.last {
+            return self.complete(dictionary, start, answer);
         }
         let next = Transfer::Download {
-            multiplexor,
-            size,
+            start,
             toggle: toggle.other(),
         };
         self.send(next, Served::Answered, answer)
@@ -123,16 +108,15 @@ impl Node {
     pub(super) fn complete<D: Writable>(
         &mut self,
         dictionary: &mut D,
-        multiplexor: Multiplexor,
-        size: Option<u32>,
+        start: DownloadStart,
         answer: Answer,
     ) -> Reaction
-        ensures { Does (completed (D.Readable.meaning dictionary.old) multiplexor size (held self.old.buffer) (shown_answer answer)) (shown self.old) (shown self.new) (D.Readable.meaning dictionary.old) (D.Readable.meaning dictionary.new) result }
+        ensures { Does D.Readable.meaning (λ d. completed d start self.old.buffer (shown_answer answer)) self.old self.new dictionary.old dictionary.new result }
     {
-        if differs(size, self.buffer.len()) {
-            return self.refuse(multiplexor, AbortCode::LengthMismatch);
+        if differs(start.size, self.buffer.len()) {
+            return self.refuse(start.multiplexor, AbortCode::LengthMismatch);
         }
-        self.commit(dictionary, multiplexor, answer)
+        self.commit(dictionary, start.multiplexor, answer)
     }
 }
 
@@ -140,8 +124,5 @@ impl Node {
 fn differs(size: Option<u32>, len: usize) -> bool
     ensures { result ≡ differs-from size len }
 {
-    match size {
-        Some(size) => size as usize != len,
-        None => false,
-    }
+    size.is_some_and(|size| size as usize != len)
 }

@@ -1,28 +1,20 @@
-use Rattle.std.proofs.Common.{◌≡◌, ℕ, length, Some, sym, ap, arith}
+use Rattle.std.proofs.Common.{◌≡◌, length, Some, Err, sym, ap, ◌∙◌}
+use Rattle.std.proofs.lemmas.Result.{err_from_is_err_and}
 use Rattle.dictionary.specs.Commits.{decided}
 use Rattle.dictionary.specs.Verdicts.{read_verdict}
-use Rattle.server.proofs.Loading.{never_short, read-refused, read_allowed, read_front}
+use Rattle.server.specs.Buffers.{code_of}
+use Rattle.server.proofs.Loading.{coded, read-refused}
 use Rattle.server.proofs.buffer.Buffer.load.Goals as goal
 
-pub returns-in-Ok : goal.returns-in-Ok
-returns-in-Ok g c =
+pub returns-in_err-len : goal.returns-in_err-len
+returns-in_err-len g c =
     let d = g.D.Readable.meaning c.args.dictionary.now in
     let m = c.args.multiplexor in
-    let b = c.args.self.now.bytes in
-    let said = c.in-Ok.ensures in
+    let code = c.in_err-len.field-0.0 in
+    let found = coded c.copy_value.result c.map_err.result code c.map_err.ensures.cases c.in_err-len.was in
+    let w : read_verdict d m ≡ Some (code_of found.0) = read-refused d m (length c.self.inside.bytes) found.0 c.self.invariant.size (g.D.Readable.lawful c.args.dictionary.now) (sym found.1 ∙ c.copy_value.ensures.answer) in
+    let p = err_from_is_err_and c.from_residual.result c.from_residual.ensures.1 in
     record {
-      answer = sym (ap decided (read_allowed d m b c.in-Ok.len said.answer));
-      after = λ h. simp said.after (read_front d m b c.in-Ok.len said.answer);
+      answer = p.1 ∙ ap (λ x. Err x) (p.2 ∙ found.2) ∙ sym (ap decided w);
+      after = λ h. cc;
     }
-
-pub returns-in-Verdict : goal.returns-in-Verdict
-returns-in-Verdict g c =
-    let d = g.D.Readable.meaning c.args.dictionary.now in
-    let w : read_verdict d c.args.multiplexor ≡ Some c.in-Verdict.code =
-    read-refused d c.args.multiplexor (length c.args.self.now.bytes) c.in-Err.refusal c.in-Verdict.code c.in-Verdict.is c.in-Err.ensures.answer in
-    record { answer = sym (ap decided w); after = λ h. let z : ◌≡◌ {A = ℕ} 0 1 = cc in absurd (omega arith) }
-
-pub returns-in-ShortBuffer : goal.returns-in-ShortBuffer
-returns-in-ShortBuffer g c =
-    let d = g.D.Readable.meaning c.args.dictionary.now in
-    absurd (never_short d c.args.multiplexor (length c.args.self.now.bytes) c.in-Err.refusal c.in-ShortBuffer.is c.args.self.now.size (g.D.Readable.lawful c.args.dictionary.now) c.in-Err.ensures.answer)

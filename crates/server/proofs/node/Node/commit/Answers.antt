@@ -2,8 +2,7 @@ use Rattle.std.proofs.Common.{◌≡◌, Some, sym, ap, ◌∙◌}
 use Rattle.sdo.specs.Answers.{shown_answer}
 use Rattle.dictionary.specs.Commits.{set_unless}
 use Rattle.dictionary.specs.Verdicts.{write_verdict}
-use Rattle.server.specs.Buffers.{held}
-use Rattle.server.specs.Steps.{committed, unless}
+use Rattle.server.specs.Steps.{refused, commit, committed, unless}
 use Rattle.server.proofs.Turning.{refused_by, doing}
 use Rattle.server.proofs.node.Node.commit.Goals as goal
 
@@ -11,10 +10,11 @@ pub returns-in-Err : goal.returns-in-Err
 returns-in-Err g c =
     let d = g.D.Readable.meaning c.args.dictionary.now in
     let m = c.args.multiplexor in
-    let v = held c.args.self.now.buffer in
+    let v = c.args.self.now.buffer in
+    let a = shown_answer c.args.answer in
     let seen = c.held.result.now in
     let said = c.in-Err.ensures in
     let w : write_verdict d m seen ≡ Some c.in-Err.code = refused_by (write_verdict d m seen) c.in-Err.code said.answer in
     let u : write_verdict d m v ≡ Some c.in-Err.code = ap (write_verdict d m) (sym c.held.ensures) ∙ w in
-    doing (sym (ap (λ x. unless x m (committed m v (shown_answer c.args.answer))) u))
+    doing {p = λ _. refused m c.in-Err.code} {q = λ x. commit x m v a} (sym (ap (λ x. unless x m (committed m v a)) u))
     (record { answer = c.refuse.ensures.answer; node = c.refuse.ensures.node; dictionary = said.after ∙ ap (λ x. set_unless x m seen d) w })

@@ -1,7 +1,6 @@
-use Rattle.std.proofs.Common.{◌+◌, ◌<◌, ◌≤◌, true, false, length, take, drop, sym, ap, ◌∙◌, arith, length-drop, length-take, drop-drop}
+use Rattle.std.proofs.Common.{◌+◌, ◌<◌, ◌≤◌, true, false, length, take, drop, sym, ap, ◌∙◌, arith, length-drop, drop-drop}
 use Rattle.sdo.specs.Answers as answer
 use Rattle.sdo.specs.Segments.{data_value, other}
-use Rattle.server.specs.Buffers.{held}
 use Rattle.server.specs.States.{Idle, Upload}
 use Rattle.server.specs.Steps.{answered}
 use Rattle.server.proofs.Turning.{turning, last_given, more_given}
@@ -9,26 +8,26 @@ use Rattle.server.proofs.node.Node.next_segment.Goals as goal
 
 pub returns-then-left-le7 : goal.returns-then-left-le7
 returns-then-left-le7 c =
-    let t = c.args.toggle in
-    let v = drop c.args.given (held c.args.self.now.buffer) in
-    let few : length v ≤ 7 = omega (arith, ap length c.rest-rest.ensures) in
-    turning (ap (λ x. answered Idle (answer.UploadSegment t x true)) (c.front-data.ensures ∙ ap (take 7) c.rest-rest.ensures) ∙ last_given c.args.multiplexor t v few) c.send.ensures
+    let t = c.args.delivery.toggle in
+    let v = drop c.args.delivery.given c.args.self.now.buffer in
+    let few : length v ≤ 7 = omega (arith, ap length c.rest-rest.ensures.value) in
+    turning (ap (λ x. answered Idle (answer.UploadSegment t x true)) (c.front-data.ensures ∙ ap (take 7) c.rest-rest.ensures.value) ∙ last_given c.args.delivery.multiplexor t v few) c.send.ensures
 
 pub overflow_add-next : goal.overflow_add-next
-overflow_add-next c = let e = simp (length-drop, length-take) at (ap length c.rest-rest.ensures) in omega arith
+overflow_add-next c = let e = simp length-drop at (ap length c.rest-rest.ensures.value) in omega arith
 
 pub returns : goal.returns
 returns c =
-    let m = c.args.multiplexor in
-    let t = c.args.toggle in
-    let k = c.args.given in
-    let b = held c.args.self.now.buffer in
+    let m = c.args.delivery.multiplexor in
+    let t = c.args.delivery.toggle in
+    let k = c.args.delivery.given in
+    let b = c.args.self.now.buffer in
     let v = drop k b in
     let w = data_value c.front-data.result in
-    let many : 7 < length v = omega (arith, ap length c.rest-rest.ensures) in
+    let many : 7 < length v = omega (arith, ap length c.rest-rest.ensures.value) in
     turning
     (ap (λ x. answered (Upload m x (drop (k + 7) b)) (answer.UploadSegment t w false)) c.other.ensures
     ∙ ap (λ x. answered (Upload m (other t) x) (answer.UploadSegment t w false)) (sym (drop-drop 7 k b))
-    ∙ ap (λ x. answered (Upload m (other t) (drop 7 v)) (answer.UploadSegment t x false)) (c.front-data.ensures ∙ ap (take 7) c.rest-rest.ensures)
+    ∙ ap (λ x. answered (Upload m (other t) (drop 7 v)) (answer.UploadSegment t x false)) (c.front-data.ensures ∙ ap (take 7) c.rest-rest.ensures.value)
     ∙ more_given m t v many)
     c.send-2.ensures
