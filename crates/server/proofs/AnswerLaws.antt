@@ -3,7 +3,8 @@ use Rattle.std.proofs.Common.{◌≡◌, ℕ, ◌+◌, ◌%◌, Bool, true, fals
 use Rattle.wire.specs.declared.frame.Frame.{Frame}
 use Rattle.wire.specs.Frames.{request_identifier}
 use Rattle.wire.specs.declared.abort_code.AbortCode.TheVariants.{UnknownCommand}
-use Rattle.sdo.specs.Fields.{b, bit7, last_seven, multiplexor_in, abort_code_in}
+use Rattle.wire.specs.Fields.{b, multiplexor_in, abort_code_in}
+use Rattle.sdo.specs.Fields.{bit7, last_seven}
 use Rattle.sdo.specs.BlockRequests.{BlockRequest, block_request_in, block_segment_in}
 use Rattle.sdo.specs.BlockRequests as block
 use Rattle.sdo.specs.Requests.{Request, request_in}

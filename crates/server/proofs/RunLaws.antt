@@ -12,9 +12,9 @@ use Rattle.sdo.specs.BlockRequests.{BlockRequest, block_request_in}
 use Rattle.sdo.specs.BlockRequests as block
 use Rattle.sdo.specs.Requests.{Request, request_in}
 use Rattle.sdo.specs.Requests as request
-use Rattle.sdo.specs.Ranges.{fits_expedited}
+use Rattle.wire.specs.FrameData.{fits_expedited}
 use Rattle.sdo.specs.Segments.{same_toggle}
-use Rattle.sdo.specs.Transfers as coming
+use Rattle.wire.specs.Transfers as coming
 use Rattle.dictionary.specs.Entries.{Entry}
 use Rattle.dictionary.specs.Questions.{value_at}
 use Rattle.dictionary.specs.Verdicts.{write_verdict, start_verdict, read_verdict}

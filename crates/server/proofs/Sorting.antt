@@ -7,7 +7,7 @@ use Rattle.wire.specs.Frames.{request_identifier}
 use Rattle.sdo.specs.declared.crc_offer.CrcOffer.TheVariants.{Offered}
 use Rattle.sdo.specs.declared.toggle.Toggle.{Toggle}
 use Rattle.sdo.specs.declared.toggle.Toggle.TheVariants.{Zero}
-use Rattle.sdo.specs.Ranges.{fits_expedited}
+use Rattle.wire.specs.FrameData.{fits_expedited}
 use Rattle.sdo.specs.Segments.{other, same_toggle}
 use Rattle.dictionary.specs.Questions.{value_at}
 use Rattle.sdo.specs.Answers.{Answer}
@@ -16,7 +16,7 @@ use Rattle.sdo.specs.BlockRequests.{BlockRequest, block_request_in}
 use Rattle.sdo.specs.BlockRequests as block
 use Rattle.sdo.specs.Requests.{Request, request_in}
 use Rattle.sdo.specs.Requests as request
-use Rattle.sdo.specs.Transfers as coming
+use Rattle.wire.specs.Transfers as coming
 use Rattle.dictionary.specs.Entries.{Entry}
 use Rattle.dictionary.specs.Verdicts.{write_verdict, start_verdict, read_verdict}
 use Rattle.server.specs.declared.block_start.BlockStart.{BlockStart}

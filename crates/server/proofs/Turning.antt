@@ -8,9 +8,9 @@ use Rattle.wire.specs.declared.frame.Frame.{Frame}
 use Rattle.sdo.specs.declared.toggle.Toggle.{Toggle}
 use Rattle.sdo.specs.Answers as answer
 use Rattle.sdo.specs.Requests.{request_in}
-use Rattle.sdo.specs.Ranges.{fits_expedited, expedited_of}
+use Rattle.wire.specs.FrameData.{fits_expedited, expedited_of}
 use Rattle.sdo.specs.Segments.{other}
-use Rattle.sdo.specs.Transfers as coming
+use Rattle.wire.specs.Transfers as coming
 use Rattle.dictionary.specs.Entries.{Entry}
 use Rattle.dictionary.specs.Commits.{decided}
 use Rattle.server.specs.declared.download_start.DownloadStart.{DownloadStart}

@@ -7,7 +7,7 @@ use Rattle.wire.specs.declared.abort_code.AbortCode.TheVariants.{UnknownCommand,
 use Rattle.wire.specs.declared.frame.Frame.{Frame}
 use Rattle.wire.specs.Frames.{request_identifier}
 use Rattle.sdo.specs.Answers as answer
-use Rattle.sdo.specs.Fields.{b}
+use Rattle.wire.specs.Fields.{b}
 use Rattle.sdo.specs.Requests.{Request, request_in}
 use Rattle.sdo.specs.Requests as request
 use Rattle.dictionary.specs.Entries.{Entry, put}

@@ -4,7 +4,7 @@ use Rattle.std.specs.Option.{option_map}
 use Rattle.wire.specs.declared.frame.Frame.{Frame}
 use Rattle.wire.specs.declared.node_number.NodeNumber.{NodeNumber}
 use Rattle.wire.specs.declared.abort_code.AbortCode.TheVariants.{TimedOut}
-use Rattle.sdo.specs.declared.block_size.BlockSize.{BlockSize}
+use Rattle.sdo.specs.Blocks.{BlockSize}
 use Rattle.sdo.specs.Answers.{Answer}
 use Rattle.sdo.specs.Answers as answer
 use Rattle.sdo.specs.Frames.{answer_frame}

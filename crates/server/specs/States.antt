@@ -3,7 +3,7 @@
 use Rattle.std.specs.Prelude.{ℕ, Bool, true, false, List}
 use Rattle.wire.specs.declared.multiplexor.Multiplexor.{Multiplexor}
 use Rattle.wire.specs.declared.node_number.NodeNumber.{NodeNumber}
-use Rattle.sdo.specs.declared.block_size.BlockSize.{BlockSize}
+use Rattle.sdo.specs.Blocks.{BlockSize}
 use Rattle.sdo.specs.declared.toggle.Toggle.{Toggle}
 use Rattle.server.specs.declared.block_start.BlockStart.{BlockStart}
 use Rattle.server.specs.declared.download_start.DownloadStart.{DownloadStart}

@@ -11,8 +11,8 @@ use Rattle.sdo.specs.declared.crc_offer.CrcOffer.TheVariants.{Offered, NotOffere
 use Rattle.sdo.specs.declared.toggle.Toggle.{Toggle}
 use Rattle.sdo.specs.declared.toggle.Toggle.TheVariants.{Zero}
 use Rattle.sdo.specs.Segments.{other, same_toggle}
-use Rattle.sdo.specs.Ranges.{fits_expedited}
-use Rattle.sdo.specs.Transfers as coming
+use Rattle.wire.specs.FrameData.{fits_expedited}
+use Rattle.wire.specs.Transfers as coming
 use Rattle.sdo.specs.Requests.{Request, request_in}
 use Rattle.sdo.specs.Requests as request
 use Rattle.sdo.specs.BlockRequests.{BlockRequest, block_request_in}

@@ -5,7 +5,6 @@ mod block_segment;
 mod block_start;
 mod buffer;
 mod delivery;
-mod download_segment;
 mod download_start;
 mod laws;
 mod node;

@@ -15,7 +15,7 @@ use crate::reception::Reception;
 use crate::served::Served;
 use crate::transfer::Transfer;
 use crc::checksum;
-use dictionary::{Readable, Writable, start_verdict};
+use dictionary::{Readable, Writable, check_start};
 use sdo::{Answer, BlockRequest, CrcOffer, UnusedBytes};
 use wire::AbortCode;
 
@@ -25,7 +25,7 @@ impl Node {
         ensures { Turns (start_block (D.Readable.meaning dictionary.now) self.old.block_size.number start) self.old self.new result }
     {
         let DownloadStart { multiplexor, size } = start.download;
-        if let Some(code) = start_verdict(dictionary, multiplexor, size) {
+        if let Err(code) = check_start(dictionary, multiplexor, size) {
             return self.refuse(multiplexor, code);
         }
         self.buffer.clear();

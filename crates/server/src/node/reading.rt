@@ -9,7 +9,7 @@ use crate::reaction::Reaction;
 use crate::served::Served;
 use crate::transfer::Transfer;
 use dictionary::Readable;
-use sdo::{Answer, ExpeditedData, SegmentData, Toggle};
+use sdo::{Answer, ExpeditedData, Segment, SegmentData, Toggle};
 use wire::{AbortCode, Multiplexor};
 
 impl Node {
@@ -86,13 +86,13 @@ impl Node {
         let toggle = delivery.toggle;
         let rest = self.buffer.rest(delivery.given);
         let left = rest.len();
-        let data = SegmentData::front(rest);
+        let bytes = SegmentData::front(rest);
         if left <= 7 {
-            let segment = Answer::UploadSegment {
+            let segment = Answer::UploadSegment(Segment {
                 toggle,
-                data,
+                bytes,
                 last: true,
-            };
+            });
             return self.send(Transfer::Idle, Served::Answered, segment);
         }
         let next = Transfer::Upload {
@@ -102,11 +102,11 @@ impl Node {
                 given: delivery.given + 7,
             },
         };
-        let segment = Answer::UploadSegment {
+        let segment = Answer::UploadSegment(Segment {
             toggle,
-            data,
+            bytes,
             last: false,
-        };
+        });
         self.send(next, Served::Answered, segment)
     }
 }

@@ -6,7 +6,6 @@ ghost use Rattle.server.specs.Steps.{aborted as aborted-step, asked as asked-ste
 
 use super::Node;
 use crate::block_start::BlockStart;
-use crate::download_segment::DownloadSegment;
 use crate::download_start::DownloadStart;
 use crate::reaction::Reaction;
 use crate::served::Served;
@@ -69,10 +68,7 @@ impl Node {
                 multiplexor,
                 transfer,
             } => self.start_download(dictionary, multiplexor, transfer),
-            Request::DownloadSegment { toggle, data, last } => self.download_segment(
-                dictionary,
-                DownloadSegment { toggle, data, last },
-            ),
+            Request::DownloadSegment(segment) => self.download_segment(dictionary, segment),
             Request::InitiateUpload { multiplexor } => self.start_upload(dictionary, multiplexor),
             Request::UploadSegment { toggle } => self.upload_segment(toggle),
             Request::InitiateBlockDownload {

@@ -13,19 +13,13 @@ use dictionary::Writable;
 use sdo::Answer;
 use wire::{AbortCode, Multiplexor};
 
-/// The multiplexor of an abort that answers no transfer.
-const NOWHERE: Multiplexor = Multiplexor {
-    index: 0,
-    subindex: 0,
-};
-
 impl Node {
     /// The multiplexor that an abort names: the transfer's, zeros without one.
     pub(super) fn named(&self) -> Multiplexor
         ensures { result ≡ named-by (shown self.now).transfer }
     {
         match self.transfer {
-            Transfer::Idle => NOWHERE,
+            Transfer::Idle => Multiplexor::default(),
             Transfer::Download { start, .. } => start.multiplexor,
             Transfer::Upload { delivery } => delivery.multiplexor,
             Transfer::BlockDownload { reception } => reception.start.download.multiplexor,

@@ -1,19 +1,18 @@
 //! Writes: at once or in segments (CiA 301, 7.2.4.3.3 and 7.2.4.3.4: SDO download initiate and segment).
 ghost use Rattle.std.specs.Prelude.{◌≡◌, ◌++◌};
 ghost use Rattle.sdo.specs.Answers.{shown_answer};
-ghost use Rattle.sdo.specs.Segments.{data_value};
-ghost use Rattle.sdo.specs.Transfers.{Segmented, shown_transfer as shown-coming};
+ghost use Rattle.wire.specs.FrameData.{value_in};
+ghost use Rattle.wire.specs.Transfers.{Segmented, shown_transfer as shown-coming};
 ghost use Rattle.server.specs.Nodes.{Turns, Does, shown};
 ghost use Rattle.server.specs.Steps.{start_download, differs as differs-from, completed, received, download_segment};
 
 use super::Node;
-use crate::download_segment::DownloadSegment;
 use crate::download_start::DownloadStart;
 use crate::reaction::Reaction;
 use crate::served::Served;
 use crate::transfer::Transfer;
-use dictionary::{Readable, Writable, start_verdict};
-use sdo::{Answer, Toggle};
+use dictionary::{Readable, Writable, check_start};
+use sdo::{Answer, Segment, Toggle};
 use wire::{AbortCode, Multiplexor};
 
 /// How many bytes a value has at most.
@@ -48,7 +47,7 @@ impl Node {
     fn start_segments<D: Readable>(&mut self, dictionary: &D, start: DownloadStart) -> Reaction
         ensures { Turns (start_download (D.Readable.meaning dictionary.now) start.multiplexor (Segmented start.size)) self.old self.new result }
     {
-        if let Some(code) = start_verdict(dictionary, start.multiplexor, start.size) {
+        if let Err(code) = check_start(dictionary, start.multiplexor, start.size) {
             return self.refuse(start.multiplexor, code);
         }
         self.buffer.clear();
@@ -66,9 +65,9 @@ impl Node {
     pub(super) fn download_segment<D: Writable>(
         &mut self,
         dictionary: &mut D,
-        segment: DownloadSegment,
+        segment: Segment,
     ) -> Reaction
-        ensures { Does D.Readable.meaning (λ d. download_segment d (shown self.old).transfer segment.toggle (data_value segment.data) segment.last) self.old self.new dictionary.old dictionary.new result }
+        ensures { Does D.Readable.meaning (λ d. download_segment d (shown self.old).transfer segment.toggle (value_in segment.bytes) segment.last) self.old self.new dictionary.old dictionary.new result }
     {
         let Transfer::Download { start, toggle } = self.transfer else {
             return self.unexpected();
@@ -84,15 +83,15 @@ impl Node {
         &mut self,
         dictionary: &mut D,
         start: DownloadStart,
-        segment: DownloadSegment,
+        segment: Segment,
     ) -> Reaction
-        ensures { Does D.Readable.meaning (λ d. received d start segment.toggle segment.last (self.old.buffer ++ data_value segment.data)) self.old self.new dictionary.old dictionary.new result }
+        ensures { Does D.Readable.meaning (λ d. received d start segment.toggle segment.last (self.old.buffer ++ value_in segment.bytes)) self.old self.new dictionary.old dictionary.new result }
     {
         let toggle = segment.toggle;
-        if self.buffer.len() + segment.data.value().len() > LONGEST {
+        if self.buffer.len() + segment.bytes.value().len() > LONGEST {
             return self.refuse(start.multiplexor, AbortCode::LengthTooHigh);
         }
-        self.buffer.append(segment.data.value());
+        self.buffer.append(segment.bytes.value());
         let answer = Answer::DownloadSegment { toggle };
         if segment.last {
             return self.complete(dictionary, start, answer);

@@ -1,7 +1,8 @@
 use Rattle.std.proofs.Common.{◌≡◌, ◌<◌, ◌≤◌, ◌++◌, length, refl, ap, ◌∙◌, arith, length-append}
 use Rattle.wire.specs.declared.abort_code.AbortCode.TheVariants.{LengthTooHigh}
 use Rattle.sdo.specs.Answers as answer
-use Rattle.sdo.specs.Segments.{data_value, other}
+use Rattle.wire.specs.FrameData.{value_in}
+use Rattle.sdo.specs.Segments.{other}
 use Rattle.server.specs.States.{Download}
 use Rattle.server.specs.Steps.{answered, completed, received, refused}
 use Rattle.server.proofs.Turning.{leaving, doing, received_long, received-last, received_more}
@@ -12,7 +13,7 @@ returns-then-len-value-gt-LONGEST g c =
     let d = g.D.Readable.meaning c.args.dictionary.now in
     let w = c.args.start in
     let s = c.args.segment in
-    let v = c.args.self.now.buffer ++ data_value s.data in
+    let v = c.args.self.now.buffer ++ value_in s.bytes in
     let long : 1024 < length v = simp length-append (omega (arith, ap length c.value.ensures)) in
     doing {p = λ _. refused w.multiplexor LengthTooHigh} {q = λ x. received x w s.toggle s.last v}
     (received_long d w s.toggle s.last v long) (leaving (λ _. refused w.multiplexor LengthTooHigh) c.args.dictionary.now c.refuse.ensures)
@@ -22,7 +23,7 @@ returns-then-segment g c =
     let d = g.D.Readable.meaning c.args.dictionary.now in
     let w = c.args.start in
     let s = c.args.segment in
-    let v = c.args.self.now.buffer ++ data_value s.data in
+    let v = c.args.self.now.buffer ++ value_in s.bytes in
     let few : length v ≤ 1024 = simp length-append (omega (arith, ap length c.value.ensures)) in
     let all : c.append.new.self ≡ v = c.append.ensures ∙ ap (λ x. c.args.self.now.buffer ++ x) c.value-2.ensures in
     let h = c.complete.ensures in
@@ -37,7 +38,7 @@ returns g c =
     let s = c.args.segment in
     let t = s.toggle in
     let b = c.args.self.now.buffer in
-    let v = b ++ data_value s.data in
+    let v = b ++ value_in s.bytes in
     let few : length v ≤ 1024 = simp length-append (omega (arith, ap length c.value.ensures)) in
     let all : c.append.new.self ≡ v = c.append.ensures ∙ ap (λ x. b ++ x) c.value-2.ensures in
     let h = c.send.ensures in
