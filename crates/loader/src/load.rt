@@ -21,8 +21,9 @@ pub fn load_all(rt: &HostRuntime, orders: &[Order]) -> anyhow::Result<()> {
         let multiplexor = order.multiplexor;
         let value = HexBytes(&order.value);
         println!(rt; "Order {place}: {multiplexor} {value}")?;
-        let data = ExpeditedData::new(&order.value)
-            .context("an order has no bytes, or more than a start carries")?;
+        let data = ExpeditedData::new(&order.value).context(
+            "an order has no bytes, or more than a start carries",
+        )?;
         let exchange = expedited_write(&mut node, &mut table, multiplexor, data);
         print_exchange(rt, exchange)?;
         if exchange.outcome.is_ok() {

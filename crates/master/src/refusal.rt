@@ -3,7 +3,7 @@ ghost use Rattle.std.specs.Prelude.{◌≡◌};
 ghost use Rattle.master.specs.Refusals.{begin_number};
 
 /// Why a master did not begin a transfer.
-#[derive(Clone, Copy, PartialEq)]
+#[derive(Clone, Copy, PartialEq, Eq, Debug)]
 pub enum BeginRefusal {
     /// An earlier transfer has not been cleared.
     NotCleared = 1,
@@ -17,11 +17,11 @@ pub enum BeginRefusal {
     NotExpedited = 5,
 }
 
-impl BeginRefusal {
-    /// The refusal's number, 1 to 5.
-    pub fn number(self) -> u8
-        ensures { result ≡ begin_number self }
-    {
-        self as u8
+/// The refusal's number, 1 to 5.
+impl From<BeginRefusal> for u8 {
+    ghost from_gives = { λ refusal result. result ≡ begin_number refusal };
+
+    fn from(refusal: BeginRefusal) -> u8 {
+        refusal as u8
     }
 }

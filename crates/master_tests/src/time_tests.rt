@@ -45,7 +45,7 @@ fn a_master_rests_for_30_ticks(rt: HostRuntime) -> Result<(), Fail> {
     check_abort(&rt, &master, sending, AbortCode::GeneralError)?;
     master.clear();
     pass(&rt, &mut master, 29);
-    assert!(rt; refusal(master.begin_read(PLACE))?.number() == 2);
+    assert!(rt; u8::from(refusal(master.begin_read(PLACE))?) == 2);
     assert!(rt; master.tick().sending.quiet);
     assert!(rt; master.begin_read(PLACE).is_ok());
     Ok(())

@@ -77,6 +77,7 @@ impl Answer {
     }
 
     /// The answer in eight bytes; none where no answer is of their kind.
+    // No TryFrom: its error could say no more than that there is none, and the pair is named as the library's to_le_bytes is.
     pub fn from_bytes(bytes: [u8; 8]) -> Option<Answer>
         ensures { option_map shown_answer result ≡ answer_in bytes }
     {
@@ -107,6 +108,7 @@ impl Answer {
     }
 
     /// The frame of the answer of a node.
+    // A line for each of three types of messages: a trait of theirs would have no other use.
     pub fn to_frame(self, node: NodeNumber) -> Frame
         ensures { result ≡ answer_frame node (shown_answer self) }
     {

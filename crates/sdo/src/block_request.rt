@@ -38,6 +38,7 @@ impl BlockRequest {
     }
 
     /// The request in eight bytes, as a node reads them that receives block segments.
+    // No From: the pair is named as the library's to_le_bytes and from_le_bytes are.
     pub fn from_bytes(bytes: [u8; 8]) -> BlockRequest
         ensures { shown_block_request result ≡ block_request_in bytes }
     {

@@ -23,6 +23,7 @@ pub type UnusedBytes = Ranged<0, 7>;
 
 impl<const LOW: u8, const HIGH: u8> Ranged<LOW, HIGH> {
     /// The number as one of the range; none where it lies outside.
+    // No TryFrom: as NonZero's new, it has nothing to say of a number that lies outside.
     pub fn new(number: u8) -> Option<Ranged<LOW, HIGH>>
         ensures { option_map (λ n. n.number) result ≡ in_range LOW HIGH number }
     {
@@ -54,6 +55,7 @@ impl<const HIGH: u8> Ranged<0, HIGH> {
 
 impl BlockSize {
     /// The block size nearest to a number: itself from 1 to 127, else the nearer end.
+    // For block sizes alone: a range may be empty, and then no number is the nearest.
     pub fn nearest(number: u8) -> BlockSize
         ensures { result.number ≡ nearest number }
     {

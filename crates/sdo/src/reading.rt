@@ -7,6 +7,7 @@ use crate::crc_offer::CrcOffer;
 use crate::toggle::Toggle;
 
 /// The toggle of a segment, or of what asks for or answers one.
+// Two functions for two bits: one would take the bit's place and the names of both its values.
 pub(crate) fn toggle(bytes: [u8; 8]) -> Toggle
     ensures { result ≡ toggle_in bytes }
 {

@@ -77,6 +77,7 @@ impl Request {
     }
 
     /// The request in eight bytes, as a node reads them that receives no block segments; none where no request is of their kind.
+    // No TryFrom: its error could say no more than that there is none, and the pair is named as the library's to_le_bytes is.
     pub fn from_bytes(bytes: [u8; 8]) -> Option<Request>
         ensures { option_map shown_request result ≡ request_in bytes }
     {

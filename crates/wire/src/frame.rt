@@ -17,6 +17,7 @@ pub struct Frame {
 
 impl Frame {
     /// A request to a node.
+    // Two functions for the two directions, whose messages are of two types: one would need a trait that they alone have.
     pub fn of_request(node: NodeNumber, request: Request) -> Frame
         ensures { result ≡ request_frame node (shown_request request) }
     {

@@ -4,6 +4,7 @@ ghost use Rattle.std.specs.Prelude.{◌≡◌, ◌-◌, ◌≤◌, length, drop,
 mod methods;
 
 /// LEAST to MOST bytes of a value. Those of the MOST that the value does not use are zero.
+// An array with a length beside it, and no ArrayVec: messages are copied, and that cannot be.
 #[derive(Clone, Copy, PartialEq, Eq, Debug)]
 pub struct FrameData<const LEAST: usize, const MOST: usize> {
     bytes: [u8; MOST],

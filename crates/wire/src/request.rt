@@ -9,6 +9,7 @@ use crate::multiplexor::Multiplexor;
 use crate::transfer::Transfer;
 
 /// A request, by the CiA 301 name of its protocol.
+// Not one type with the messages of all transfers: these are the starts alone, and all other bytes are no request here.
 #[derive(Clone, Copy, PartialEq, Eq, Debug)]
 pub enum Request {
     InitiateDownload {
@@ -40,6 +41,7 @@ impl Request {
     }
 
     /// The request in eight bytes; none where their kind is not one that a node knows.
+    // No TryFrom: its error could say no more than that there is none, and the pair is named as the library's to_le_bytes is.
     pub fn from_bytes(bytes: [u8; 8]) -> Option<Request>
         ensures { option_map shown_request result ≡ request_in bytes }
     {
