@@ -306,26 +306,26 @@ static void make_answer(u8 *b, const struct message *m)
 
 void plain_requests(struct frames *frames)
 {
-    struct message first, second, third, fourth;
-    read_request(frames->first, &first);
-    read_request(frames->second, &second);
-    read_request(frames->third, &third);
-    read_request(frames->fourth, &fourth);
-    make_request(frames->first, &first);
-    make_request(frames->second, &second);
-    make_request(frames->third, &third);
-    make_request(frames->fourth, &fourth);
+    struct message message;
+    read_request(frames->first, &message);
+    make_request(frames->first, &message);
+    read_request(frames->second, &message);
+    make_request(frames->second, &message);
+    read_request(frames->third, &message);
+    make_request(frames->third, &message);
+    read_request(frames->fourth, &message);
+    make_request(frames->fourth, &message);
 }
 
 void plain_answers(struct frames *frames)
 {
-    struct message first, second, third, fourth;
-    read_answer(frames->first, &first);
-    read_answer(frames->second, &second);
-    read_answer(frames->third, &third);
-    read_answer(frames->fourth, &fourth);
-    make_answer(frames->first, &first);
-    make_answer(frames->second, &second);
-    make_answer(frames->third, &third);
-    make_answer(frames->fourth, &fourth);
+    struct message message;
+    read_answer(frames->first, &message);
+    make_answer(frames->first, &message);
+    read_answer(frames->second, &message);
+    make_answer(frames->second, &message);
+    read_answer(frames->third, &message);
+    make_answer(frames->third, &message);
+    read_answer(frames->fourth, &message);
+    make_answer(frames->fourth, &message);
 }

@@ -8,6 +8,7 @@ use search::Keyed;
 use wire::Multiplexor;
 
 /// An entry's multiplexor and attributes, and where its value lies in the table's bytes.
+// A place and a length, and no slice or Vec: the values of all rows lie in the table's own bytes, without a heap.
 #[derive(Clone, Copy)]
 pub struct Row {
     pub multiplexor: Multiplexor,
@@ -22,10 +23,7 @@ impl Default for Row {
 
     fn default() -> Row {
         Row {
-            multiplexor: Multiplexor {
-                index: 0,
-                subindex: 0,
-            },
+            multiplexor: Multiplexor::default(),
             attributes: Attributes {
                 access: Access::ReadOnly,
                 shortest: 0,

@@ -30,7 +30,7 @@ pub struct Frames {
     pub fourth: [u8; 8],
 }
 
-/// Reads four frames as requests, and then makes each again; one that is none has all bits set.
+/// Reads each of four frames as a request, and makes it again; one that is none has all bits set.
 // C calls this function and the next by their names; what both do is in `make_again`.
 #[unsafe(no_mangle)]
 pub extern "C" fn wontazhil_requests(frames: &mut Frames)
@@ -41,6 +41,7 @@ pub extern "C" fn wontazhil_requests(frames: &mut Frames)
         |bytes|
             ensures { result ≡ request_again bytes }
         {
+            // By arms: map_or was tried, and a goal of the closure stayed open.
             match Request::from_bytes(bytes) {
                 Some(request) => request.to_bytes(),
                 None => NO_FRAME,
@@ -49,7 +50,7 @@ pub extern "C" fn wontazhil_requests(frames: &mut Frames)
     );
 }
 
-/// Reads four frames as answers, and then makes each again; one that is none has all bits set.
+/// Reads each of four frames as an answer, and makes it again; one that is none has all bits set.
 #[unsafe(no_mangle)]
 pub extern "C" fn wontazhil_answers(frames: &mut Frames)
     ensures { frames.new ≡ each answer_again frames.old }
@@ -59,6 +60,7 @@ pub extern "C" fn wontazhil_answers(frames: &mut Frames)
         |bytes|
             ensures { result ≡ answer_again bytes }
         {
+            // By arms, as above.
             match Answer::from_bytes(bytes) {
                 Some(answer) => answer.to_bytes(),
                 None => NO_FRAME,

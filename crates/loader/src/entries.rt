@@ -41,6 +41,7 @@ fn print_entry<D: Readable>(
     print!(rt; "  {multiplexor}  {access:<10}  {lengths:<15}  ")?;
     match dictionary.copy_value(multiplexor, &mut buffer) {
         Ok(length) => {
+            // By length: the dictionary fills the front of its caller's buffer.
             let value = HexBytes(&buffer[0..length]);
             println!(rt; "{value}")?
         }

@@ -65,6 +65,7 @@ fn asks_for_help(rt: &HostRuntime) -> anyhow::Result<bool> {
 
 /// The orders of a text; where some lines are none, each is named with its number and the reason.
 fn orders_of(rt: &HostRuntime, text: &[u8]) -> anyhow::Result<Vec<Order>> {
+    // By arms: a closure for or_else would hold the same loop over the lines, and say no more.
     match read_orders(rt.alloc(), without_mark(text))?.into_orders() {
         Ok(orders) => Ok(orders),
         Err(bad) => {

@@ -46,10 +46,7 @@ impl Master {
             node,
             begun: 0,
             phase: Phase::Idle,
-            multiplexor: Multiplexor {
-                index: 0,
-                subindex: 0,
-            },
+            multiplexor: Multiplexor::default(),
             value: Value::new(),
             highest: 0,
             ticks: 0,
@@ -69,7 +66,8 @@ impl Master {
 
     /// The bytes that the latest transfer has read, or the value that it writes.
     pub fn value(&self) -> &[u8]
-        ensures { result.now ≡ self.now.value }
+        ensures value { result.now ≡ self.now.value }
+        ensures bound { length result.now ≤ 1024 }
     {
         &self.value
     }

@@ -44,6 +44,7 @@ const REGISTER: [Registered; 15] = [
 pub fn layer_of(code: AbortCode) -> Layer
     ensures { result ≡ layer_of (number code) }
 {
+    // By arms: map_or was tried, and what its closure gives was not proved without a clause longer than these arms.
     match place(&REGISTER, u32::from(code)) {
         Some(i) => REGISTER[i].1,
         None => Layer::Protocol,

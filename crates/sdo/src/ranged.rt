@@ -60,7 +60,7 @@ impl BlockSize {
         ensures { result.number ≡ nearest number }
     {
         Ranged {
-            number: number.max(1).min(127),
+            number: number.clamp(1, 127),
         }
     }
 }

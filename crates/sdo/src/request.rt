@@ -14,6 +14,7 @@ use wire::layout::{self, Initiate};
 use wire::{AbortCode, Frame, Identifier, Multiplexor, NodeNumber, Transfer};
 
 /// A request, by the CiA 301 name of its protocol.
+// No model: an enum can have none, and clauses see a message by shown_request.
 #[derive(Clone, Copy, PartialEq, Eq, Debug)]
 pub enum Request {
     /// The start of a write.
@@ -128,11 +129,7 @@ fn block_download(bytes: [u8; 8]) -> Request
 fn block_start(bytes: [u8; 8]) -> Request
     ensures { shown_request result ≡ block_start_in bytes }
 {
-    let size = if bytes[0] / 2 % 2 == 1 {
-        Some(layout::number(bytes))
-    } else {
-        None
-    };
+    let size = (bytes[0] / 2 % 2 == 1).then_some(layout::number(bytes));
     Request::InitiateBlockDownload {
         multiplexor: layout::multiplexor(bytes),
         crc: reading::crc_offer(bytes),

@@ -17,6 +17,7 @@ pub struct Segment {
 
 impl Segment {
     /// The eight bytes of the segment.
+    // No From: the pair is named as that of the messages is.
     pub(crate) fn to_bytes(&self) -> [u8; 8]
         ensures { result ≡ segment_bytes self.now.toggle (value_in self.now.bytes) self.now.last }
     {

@@ -1,7 +1,7 @@
 //! Segments and blocks as CiA 301 shows them, and what no correct partner sends.
 use sdo::{
-    Answer, BlockRequest, BlockSize, CrcOffer, ExpeditedData, Request, Segment, SegmentData, SequenceNumber,
-    Toggle, Transfer, UnusedBytes, segment,
+    Answer, BlockRequest, BlockSize, CrcOffer, ExpeditedData, Request, Segment, SegmentData,
+    SequenceNumber, Toggle, Transfer, UnusedBytes, segment,
 };
 use std::process::Abort;
 use std::test::Fail;

@@ -6,7 +6,8 @@ mod methods;
 /// How many bytes a buffer has: 147 segments of seven, enough for 1,024 bytes and what fills up the last segment.
 const ROOM: usize = 1029;
 
-// An array with a length beside it: the stack has no heap, and what it holds is bounded.
+// An array with a length beside it, and no ArrayVec: a read fills the front of the whole array, which an ArrayVec would first have
+// to be filled up for.
 /// Up to 1,029 bytes, which contracts see as the list of those that are held.
 #[derive(Drop)]
 pub struct Buffer {

@@ -3,6 +3,7 @@ use crate::served::Served;
 use wire::Frame;
 
 /// What became of the frame, and the node's own frame where it sends one.
+// Not the Reaction of the node of expedited transfers: what became of a frame has two cases more here.
 #[derive(Clone, Copy, PartialEq)]
 pub struct Reaction {
     pub served: Served,

@@ -1,6 +1,7 @@
 //! What became of a frame that a node took.
 
 /// The first of these that fits.
+// Not the Served of the node of expedited transfers, which always has a frame and keeps no segment.
 #[derive(Clone, Copy, PartialEq)]
 pub enum Served {
     /// There was no frame.

@@ -4,7 +4,8 @@ ghost use Rattle.std.specs.Prelude.{◌≡◌, ◌-◌, ◌≤◌, length, drop,
 mod methods;
 
 /// LEAST to MOST bytes of a value. Those of the MOST that the value does not use are zero.
-// An array with a length beside it, and no ArrayVec: messages are copied, and that cannot be.
+// An array with a length beside it, and no ArrayVec: messages are copied, and an ArrayVec cannot be. No model: tried, and what
+// holds such a value can't be copied twice.
 #[derive(Clone, Copy, PartialEq, Eq, Debug)]
 pub struct FrameData<const LEAST: usize, const MOST: usize> {
     bytes: [u8; MOST],

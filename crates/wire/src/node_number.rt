@@ -17,7 +17,7 @@ impl NodeNumber {
         ensures { result.number ≡ nearest number }
     {
         NodeNumber {
-            number: number.max(1).min(127),
+            number: number.clamp(1, 127),
         }
     }
 

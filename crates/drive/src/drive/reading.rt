@@ -42,6 +42,7 @@ impl Readable for Drive {
 }
 
 /// Copies a value that may be read to the front of a buffer and tells its length; a short buffer stays as it was.
+// The table has these lines too: one function for both would have to be public in the dictionary's crate.
 fn copy(value: &[u8], buffer: &mut [u8]) -> Result<usize, CopyRefusal>
     ensures answer { result ≡ copied_or (copy_refusal None (length buffer.old) (length value.now)) (length value.now) }
     ensures after { buffer.new ≡ overlaid (copy_refusal None (length buffer.old) (length value.now)) value.now buffer.old }

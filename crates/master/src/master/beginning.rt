@@ -106,13 +106,11 @@ fn expedited_start(multiplexor: Multiplexor, value: &[u8]) -> Result<Request, Be
     requires { 1 ≤ length value.now }
     ensures { shown_start result ≡ (if nat_le (length value.now) 4 then Ok (InitiateDownload multiplexor (Expedited value.now)) else Err NotExpedited) }
 {
-    match ExpeditedData::new(value) {
-        Some(data) => Ok(Request::InitiateDownload {
-            multiplexor,
-            transfer: Transfer::Expedited { data },
-        }),
-        None => Err(BeginRefusal::NotExpedited),
-    }
+    let data = ExpeditedData::new(value).ok_or(BeginRefusal::NotExpedited)?;
+    Ok(Request::InitiateDownload {
+        multiplexor,
+        transfer: Transfer::Expedited { data },
+    })
 }
 
 /// The answer to the start of a write.

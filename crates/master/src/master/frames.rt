@@ -33,11 +33,7 @@ impl Master {
     fn message_frame(&self, request: Request, place: usize) -> Option<Frame>
         ensures { result ≡ slice_get (ask self.now (shown_request request)) place }
     {
-        if place == 0 {
-            Some(request.to_frame(self.node))
-        } else {
-            None
-        }
+        (place == 0).then_some(request.to_frame(self.node))
     }
 
     /// The frame at a place of a sub-block.

@@ -95,6 +95,7 @@ fn may_come(size: Option<u32>) -> bool
 }
 
 /// Whether an announced size differs from a number of bytes.
+// The other end has the same line: the crate below both has messages, and no values whose bytes are counted.
 fn differs(size: Option<u32>, total: usize) -> bool
     ensures { result ≡ differs size total }
 {

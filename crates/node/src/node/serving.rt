@@ -128,6 +128,7 @@ fn short_value<D: Readable>(
 }
 
 /// The code of a read that gave no value: the verdict, or that a longer value is not served.
+// Not one with the other node's: a function for both would take the code of a short buffer, and have the same two arms.
 fn unread(refusal: CopyRefusal) -> AbortCode
     ensures { result ≡ unread_code refusal }
 {

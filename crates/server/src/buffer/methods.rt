@@ -28,6 +28,7 @@ impl Buffer {
     }
 
     /// The bytes that are held behind the first few.
+    // The bound stands in the clause, since a caller sees the list and not the array.
     pub(crate) fn rest(&self, given: usize) -> &[u8]
         ensures value { result.now ≡ drop given self.now }
         ensures bound { length self.now ≤ 1029 }
@@ -105,6 +106,7 @@ impl Buffer {
 }
 
 /// The abort code of a refused copy.
+// Not one with the other node's: a function for both would take the code of a short buffer, and have the same two arms.
 fn code(refusal: CopyRefusal) -> AbortCode
     ensures { result ≡ code_of refusal }
 {

@@ -94,6 +94,7 @@ impl Node {
     ) -> Reaction
         ensures { Does D.Readable.meaning (λ d. commit-step d multiplexor self.old.buffer (shown_answer answer)) self.old self.new dictionary.old dictionary.new result }
     {
+        // A match: both arms answer the master, and no error is left to hand on.
         match dictionary.commit(multiplexor, self.buffer.held()) {
             Ok(()) => {
                 self.commits = self.commits.wrapping_add(1);

@@ -120,6 +120,7 @@ impl Node {
 }
 
 /// Whether an announced size differs from a number of bytes.
+// The other end has the same line: the crate below both has messages, and no values whose bytes are counted.
 fn differs(size: Option<u32>, len: usize) -> bool
     ensures { result ≡ differs-from size len }
 {

@@ -7,6 +7,7 @@ use super::FrameData;
 
 impl<const LEAST: usize, const MOST: usize> FrameData<LEAST, MOST> {
     /// The value as data; none unless it has LEAST to MOST bytes.
+    // No TryFrom: there is nothing to say of a value but that it has too few or too many bytes.
     pub fn new(value: &[u8]) -> Option<FrameData<LEAST, MOST>>
         ensures { option_map value_in result ≡ data_of LEAST MOST value.now }
     {

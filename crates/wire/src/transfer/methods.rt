@@ -38,12 +38,9 @@ impl Transfer {
                 data: expedited(bytes),
             };
         }
-        if bytes[0] % 2 == 1 {
-            return Transfer::Segmented {
-                size: Some(number(bytes)),
-            };
+        Transfer::Segmented {
+            size: (bytes[0] % 2 == 1).then_some(number(bytes)),
         }
-        Transfer::Segmented { size: None }
     }
 }
 
