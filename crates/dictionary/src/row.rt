@@ -1,5 +1,6 @@
 //! Where a table keeps one entry.
 ghost use Rattle.std.specs.Prelude.{◌≡◌};
+ghost use Rattle.std.proofs.Common.{rules};
 ghost use Rattle.dictionary.specs.Layouts.{vacant};
 
 use crate::access::Access;
@@ -44,4 +45,6 @@ impl Keyed for Row {
     fn key(&self) -> Multiplexor {
         self.multiplexor
     }
+
+    ghost connected = { Prim.search rules };
 }

@@ -1,5 +1,5 @@
 //! A dictionary in fixed memory.
-ghost use Rattle.std.specs.Prelude.{◌≡◌, true, length};
+ghost use Rattle.std.specs.Prelude.{◌≡◌, ◌≤◌, true, length};
 ghost use Rattle.dictionary.specs.Layouts.{laid};
 
 use crate::row::Row;
@@ -23,5 +23,6 @@ const MOST_BYTES: usize = 4096;
 pub struct Table {
     rows: ArrayVec<Row, MOST_ENTRIES>,
     bytes: ArrayVec<u8, MOST_BYTES>,
+    ghost bounds: { (length rows.items ≤ 64) × (length bytes.items ≤ 4096) },
     ghost layout: { laid 0 rows.items (length bytes.items) ≡ true },
 }

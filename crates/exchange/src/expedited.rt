@@ -5,7 +5,7 @@ ghost use Rattle.dictionary.specs.Commits.{committed};
 ghost use Rattle.dictionary.specs.Verdicts.{write_verdict};
 ghost use Rattle.exchange.specs.Outcomes.{exchange, node_after};
 
-use crate::outcome::{WriteFailure, outcome_of};
+use crate::outcome::{Outcome, outcome_of};
 use dictionary::Writable;
 use node::Node;
 use wire::{ExpeditedData, Frame, Multiplexor, Request, Transfer};
@@ -15,7 +15,7 @@ use wire::{ExpeditedData, Frame, Multiplexor, Request, Transfer};
 pub struct Exchange {
     pub request: Frame,
     pub reply: Option<Frame>,
-    pub outcome: Result<(), WriteFailure>,
+    pub outcome: Outcome,
 }
 
 /// Writes a value at a node: it is accepted and set where the dictionary has no verdict, else refused by the verdict's code.

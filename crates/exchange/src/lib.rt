@@ -5,4 +5,4 @@ mod expedited;
 mod outcome;
 
 pub use expedited::{Exchange, expedited_write};
-pub use outcome::WriteFailure;
+pub use outcome::{Outcome, WriteFailure};

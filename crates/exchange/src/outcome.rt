@@ -14,12 +14,15 @@ pub enum WriteFailure {
     NotAwaited,
 }
 
-/// What a node's reply says of a write to a multiplexor: that it set the value, or why it is not known to have.
+/// That the node answered that it set the value, or why it is not known to have.
+pub type Outcome = Result<(), WriteFailure>;
+
+/// What a node's reply says of a write to a multiplexor.
 pub(crate) fn outcome_of(
     node: NodeNumber,
     multiplexor: Multiplexor,
     reply: Option<Frame>,
-) -> Result<(), WriteFailure>
+) -> Outcome
     ensures { result ≡ reply_says node multiplexor reply }
 {
     let frame = reply.ok_or(WriteFailure::NotAwaited)?;
@@ -31,7 +34,7 @@ pub(crate) fn outcome_of(
 }
 
 /// What an answer says of a write to a multiplexor.
-fn told(multiplexor: Multiplexor, answer: Answer) -> Result<(), WriteFailure>
+fn told(multiplexor: Multiplexor, answer: Answer) -> Outcome
     ensures { result ≡ answer_says multiplexor (shown_answer answer) }
 {
     match answer {

@@ -1,6 +1,6 @@
 //! Lines that hold as many frames each way as there is room for.
-ghost use Rattle.std.specs.Prelude.{◌≡◌};
-ghost use Rattle.line.specs.Meanings.{sent_within, quieted};
+ghost use Rattle.std.specs.Prelude.{◌≡◌, ◌≤◌, length};
+ghost use Rattle.line.specs.Meanings.{sent_within, quieted, waiting};
 
 use crate::end::End;
 use crate::line::Line;
@@ -69,6 +69,7 @@ impl<const ROOM: usize> Line for BoundedLine<ROOM> {
 
     fn send(&mut self, to: End, frame: Frame)
         ensures exactly { self.new ≡ sent_within ROOM to frame self.old }
+        ensures within { length (waiting to self.new) ≤ ROOM }
     {
         self.lost |= self.queue(to).add(frame).is_err();
     }

@@ -1,5 +1,5 @@
 //! Items in fixed memory, first in, first out.
-ghost use Rattle.std.specs.Prelude.{◌≡◌, [], if◌then◌else◌};
+ghost use Rattle.std.specs.Prelude.{◌≡◌, ◌≤◌, [], length, if◌then◌else◌};
 ghost use Rattle.line.specs.Meanings.{added, full, leading, following};
 
 use std::marker::Model;
@@ -41,6 +41,7 @@ impl<T: Copy, const ROOM: usize> Queue<T, ROOM> {
     pub fn add(&mut self, item: T) -> Result<(), T>
         ensures answer { result ≡ (if full ROOM self.old then Err item else Ok tt) }
         ensures after { self.new ≡ added item (full ROOM self.old) self.old }
+        ensures within { length self.new ≤ ROOM }
     {
         if self.is_full() {
             return Err(item);

@@ -1,5 +1,5 @@
 //! A master: the SDO client of CiA 301, which carries out one transfer at a time.
-ghost use Rattle.std.specs.Prelude.{◌≡◌};
+ghost use Rattle.std.specs.Prelude.{◌≡◌, ◌≤◌, length};
 ghost use Rattle.master.specs.States.{fresh, clear, ending_in};
 
 use crate::phase::{Ending, Phase};

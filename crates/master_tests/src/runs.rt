@@ -25,10 +25,7 @@ pub(crate) fn begun(answer: Result<Begun, BeginRefusal>) -> Result<Begun, Fail> 
 
 /// Why no transfer was begun.
 pub(crate) fn refusal(answer: Result<Begun, BeginRefusal>) -> Result<BeginRefusal, Fail> {
-    match answer {
-        Ok(_) => Err(Fail::new("begun")),
-        Err(refusal) => Ok(refusal),
-    }
+    answer.err().ok_or_else(|| Fail::new("begun"))
 }
 
 /// A master that has begun to write to 2001:00.
@@ -73,9 +70,9 @@ pub(crate) fn check_frame(
     place: usize,
     bytes: [u8; 8],
 ) -> Result<(), Fail> {
-    let Some(frame) = master.frame(sending.batch, place) else {
-        return Err(Fail::new("no frame"));
-    };
+    let frame = master
+        .frame(sending.batch, place)
+        .ok_or_else(|| Fail::new("no frame"))?;
     assert!(rt; frame.identifier.number() == 0x605);
     assert!(rt; frame.bytes == bytes);
     Ok(())

@@ -1,5 +1,6 @@
 //! The register of abort codes: the layer that each belongs to.
 ghost use Rattle.std.specs.Prelude.{◌≡◌};
+ghost use Rattle.std.proofs.Common.{rules};
 ghost use Rattle.wire.specs.AbortCodes.{number};
 ghost use Rattle.register.specs.Layers.{layer_of};
 
@@ -19,6 +20,8 @@ impl Keyed for Registered {
     fn key(&self) -> u32 {
         self.0
     }
+
+    ghost connected = { Prim.search rules };
 }
 
 /// The codes whose layer is known, rising by number.

@@ -14,10 +14,7 @@ const TABLE: Multiplexor = Multiplexor {
 
 /// These bytes as a segment's data.
 fn data(value: &[u8]) -> Result<SegmentData, Fail> {
-    match SegmentData::new(value) {
-        Some(data) => Ok(data),
-        None => Err(Fail::new("more than seven bytes")),
-    }
+    SegmentData::new(value).ok_or_else(|| Fail::new("more than seven bytes"))
 }
 
 /// Checks that these bytes are a last write segment, with toggle 1, of that value.
@@ -39,9 +36,7 @@ fn check_block(
     number: u8,
     data: [u8; 7],
 ) -> Result<(), Fail> {
-    let Some(number) = SequenceNumber::new(number) else {
-        return Err(Fail::new("more than 127"));
-    };
+    let number = SequenceNumber::new(number).ok_or_else(|| Fail::new("more than 127"))?;
     let segment = BlockRequest::Segment { last, number, data };
     assert!(rt; BlockRequest::from_bytes(bytes) == segment);
     Ok(())
@@ -102,9 +97,7 @@ fn every_other_command_is_a_block_segment(rt: HostRuntime) -> Result<(), Fail> {
 
 #[test]
 fn a_last_segment_with_number_0_is_sent_as_an_abort(rt: HostRuntime) -> Result<(), Fail> {
-    let Some(number) = SequenceNumber::new(0) else {
-        return Err(Fail::new("no number 0"));
-    };
+    let number = SequenceNumber::new(0).ok_or_else(|| Fail::new("no number 0"))?;
     let segment = BlockRequest::Segment {
         last: true,
         number,
@@ -170,9 +163,7 @@ fn toggles_alternate_and_other_bits_are_ignored(rt: HostRuntime) {
 
 #[test]
 fn a_read_answered_expedited_without_a_size_has_four_bytes(rt: HostRuntime) -> Result<(), Fail> {
-    let Some(data) = ExpeditedData::new(&[1, 2, 3, 4]) else {
-        return Err(Fail::new("not one to four bytes"));
-    };
+    let data = ExpeditedData::new(&[1, 2, 3, 4]).ok_or_else(|| Fail::new("not one to four bytes"))?;
     let given = Answer::InitiateUpload {
         multiplexor: TABLE,
         transfer: Transfer::Expedited { data },
@@ -212,9 +203,7 @@ fn block_starts_without_size_or_crc(rt: HostRuntime) {
 
 #[test]
 fn block_ends_have_their_unused_bytes_and_crc(rt: HostRuntime) -> Result<(), Fail> {
-    let Some(unused) = UnusedBytes::new(5) else {
-        return Err(Fail::new("more than seven"));
-    };
+    let unused = UnusedBytes::new(5).ok_or_else(|| Fail::new("more than seven"))?;
     let end = Request::EndBlockDownload {
         unused,
         crc: 0x31c3,

@@ -1,6 +1,6 @@
 //! The search, by halves.
 ghost use Rattle.std.specs.Prelude.{IfSome};
-ghost use Rattle.search.specs.Orders.{earlier, Connected};
+ghost use Rattle.search.specs.Orders.{earlier};
 ghost use Rattle.search.specs.Places.{Answers, Border, Matches, Parts, Rising, Stands};
 
 use crate::keyed::Keyed;
@@ -8,7 +8,7 @@ use crate::keyed::Keyed;
 /// The place of the row that has a key, in rows of rising keys. In other rows it may be missed.
 pub fn place<R: Keyed>(rows: &[R], key: R::Key) -> Option<usize>
     ensures matches { IfSome result (λ i. Matches (earlier R.Key.cmp) R.Keyed.label key rows.now i) }
-    ensures stands { Connected (earlier R.Key.cmp) → IfSome result (λ i. Stands R.Keyed.label key rows.now i) }
+    ensures stands { IfSome result (λ i. Stands R.Keyed.label key rows.now i) }
     ensures answers { Rising (earlier R.Key.cmp) R.Keyed.label rows.now → Answers (earlier R.Key.cmp) R.Keyed.label key rows.now result }
 {
     // By count_before, so that one search is proved: the library's binary_search_by_key would be a second beside its loop.

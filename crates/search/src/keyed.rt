@@ -1,5 +1,6 @@
 //! What is looked through.
 ghost use Rattle.std.specs.Prelude.{◌≡◌};
+ghost use Rattle.search.specs.Orders.{earlier, Connected};
 
 /// A row of a table, which has a key.
 pub trait Keyed {
@@ -10,4 +11,7 @@ pub trait Keyed {
     /// The row's key.
     fn key(&self) -> Self::Key
         ensures { result ≡ label self.now };
+
+    // Of two different keys one stands before the other.
+    ghost connected: { Connected (earlier Self.Key.cmp) };
 }

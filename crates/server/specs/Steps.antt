@@ -198,7 +198,7 @@ module _ (n : ℕ) where
     pass_over v last k =
         cond (ends n last k)
         (answered (BlockDownload (next_sub_block r.start) v) (answer.AcknowledgeBlock (r.expected - 1) n))
-        (dropped (BlockDownload r v))
+        (dropped (BlockDownload (record r { spoiled = false }) v))
 
     -- there was one too many: that is told at the end of the sub-block
     abbrev pub spoil : List ℕ → Bool → ℕ → Step

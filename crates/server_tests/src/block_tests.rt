@@ -32,6 +32,7 @@ const END: Turn = Turn(
 );
 
 /// A segment that is kept within a sub-block.
+// Two names and no parameter: a run then reads as what becomes of its segments.
 fn kept(command: u8) -> Turn {
     Turn([command, 9, 9, 9, 9, 9, 9, 9], Served::Kept, None)
 }

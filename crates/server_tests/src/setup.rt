@@ -28,9 +28,7 @@ impl Setup {
 
     /// What the node makes of a frame with an identifier.
     pub(crate) fn serve(&mut self, identifier: u16, bytes: [u8; 8]) -> Result<Reaction, Fail> {
-        let Some(identifier) = Identifier::new(identifier) else {
-            return Err(Fail::new("more than 11 bits"));
-        };
+        let identifier = Identifier::new(identifier).ok_or_else(|| Fail::new("more than 11 bits"))?;
         Ok(
             self.node
                 .serve(&mut self.table, Some(Frame { identifier, bytes })),

@@ -10,10 +10,9 @@ const RAMP: Multiplexor = Multiplexor {
 };
 
 /// The start of a write of these bytes to the ramp.
+// Not shared with the tests of the other messages, whose Request is another type.
 fn write(value: &[u8]) -> Result<Request, Fail> {
-    let Some(data) = ExpeditedData::new(value) else {
-        return Err(Fail::new("not one to four bytes"));
-    };
+    let data = ExpeditedData::new(value).ok_or_else(|| Fail::new("not one to four bytes"))?;
     Ok(Request::InitiateDownload {
         multiplexor: RAMP,
         transfer: Transfer::Expedited { data },

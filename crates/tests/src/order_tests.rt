@@ -171,11 +171,9 @@ fn one_bad_line_keeps_all_orders_back(rt: HostRuntime) -> Result<(), Fail> {
             Err(_)
         )
     );
-    match read_orders(heap, b"2000:01 05\n# all good\n2000:01 06\n")?.into_orders() {
-        Ok(orders) => {
-            assert_eq!(rt; orders.len(), 2);
-            Ok(())
-        },
-        Err(_) => Err(Fail::new("no line is bad")),
-    }
+    let orders = read_orders(heap, b"2000:01 05\n# all good\n2000:01 06\n")?
+        .into_orders()
+        .map_err(|_| Fail::new("no line is bad"))?;
+    assert_eq!(rt; orders.len(), 2);
+    Ok(())
 }

@@ -1,4 +1,6 @@
 //! Rows found by their keys: counts by code, and values by multiplexor.
+ghost use Rattle.std.proofs.Common.{rules};
+
 use search::{Keyed, count_before, place};
 use wire::Multiplexor;
 
@@ -17,6 +19,8 @@ impl Keyed for Seen {
     fn key(&self) -> u32 {
         self.code
     }
+
+    ghost connected = { Prim.search rules };
 }
 
 /// A value, and where it stands.
@@ -34,6 +38,8 @@ impl Keyed for Held {
     fn key(&self) -> Multiplexor {
         self.at
     }
+
+    ghost connected = { Prim.search rules };
 }
 
 /// How often a code was seen, among some.

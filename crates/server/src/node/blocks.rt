@@ -108,7 +108,10 @@ impl Node {
             };
             return self.next_sub_block(reception.start, answer);
         }
-        self.drop_segment(reception)
+        self.drop_segment(Reception {
+            spoiled: false,
+            ..reception
+        })
     }
 
     /// There was a segment too many: that is told at the end of the sub-block.

@@ -13,8 +13,8 @@ overwrite-requires c =
     let short = fits-longest (row_at t.rows.items i).attributes (length c.args.value.now) c.requires.fitting in
     rw (c.deref.ensures.0, c.deref_mut.ensures.value) (omega arith)
 
-pub invariant_of-self : goal.invariant_of-self
-invariant_of-self c =
+pub invariant_of-self-clause-layout : goal.invariant_of-self-clause-layout
+invariant_of-self-clause-layout c =
     let t = c.args.self.now in
     let i = c.args.place in
     let v = c.args.value.now in
@@ -23,7 +23,7 @@ invariant_of-self c =
     let slot = table_slot t i c.requires.within in
     let short = fits-longest (row_at t.rows.items i).attributes (length v) c.requires.fitting in
     let n = length-overwritten (row_at t.rows.items i).start v t.bytes.items (omega arith) in
-    record { layout = laid_along bytes rows (ap (laid 0 (set t.rows.items i (resized (length v) (row_at t.rows.items i)))) n ∙ table_resized t i c.requires.within (length v) c.requires.fitting) }
+    laid_along bytes rows (ap (laid 0 (set t.rows.items i (resized (length v) (row_at t.rows.items i)))) n ∙ table_resized t i c.requires.within (length v) c.requires.fitting)
 
 pub returns : goal.returns
 returns c =
