@@ -1,2 +1,1 @@
 pub mod Registering
-pub mod Telling

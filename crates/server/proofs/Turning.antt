@@ -1,9 +1,8 @@
 -- Steps told in other words: by what a dictionary answered, and by what the buffer holds.
-use Rattle.std.proofs.Common.{◌≡◌, ℕ, ◌+◌, ◌<◌, ◌≤◌, Bool, true, false, cond, List, length, take, drop, Some, None, Err, Option, sym, refl, ap, ◌∙◌, subst, take_all, lt-ltb, eq-eqb, eqb, eqb-true, not}
-use Rattle.std.proofs.lemmas.Bool.{not-false, le-ltb, le-leb, lt-leb}
+use Rattle.std.proofs.Common.{◌≡◌, ℕ, ◌+◌, ◌<◌, ◌≤◌, Bool, true, false, cond, List, length, take, drop, Some, None, Err, Option, sym, refl, ap, ◌∙◌, subst, take_all, eq-eqb}
+use Rattle.std.proofs.lemmas.Bool.{le-leb, lt-leb}
 use Rattle.wire.specs.declared.multiplexor.Multiplexor.{Multiplexor}
 use Rattle.wire.specs.declared.abort_code.AbortCode.{AbortCode}
-use Rattle.wire.specs.declared.abort_code.AbortCode.TheVariants.{LengthTooHigh}
 use Rattle.wire.specs.declared.frame.Frame.{Frame}
 use Rattle.sdo.specs.declared.toggle.Toggle.{Toggle}
 use Rattle.sdo.specs.Answers as answer
@@ -13,12 +12,11 @@ use Rattle.sdo.specs.Segments.{other}
 use Rattle.wire.specs.Transfers as coming
 use Rattle.dictionary.specs.Entries.{Entry}
 use Rattle.dictionary.specs.Commits.{decided}
-use Rattle.server.specs.declared.download_start.DownloadStart.{DownloadStart}
 use Rattle.server.specs.declared.reception.Reception.{Reception}
 use Rattle.server.specs.declared.reaction.Reaction.{Reaction}
 use Rattle.server.specs.declared.transfer.Transfer as declared
-use Rattle.server.specs.States.{State, Idle, Download, Upload}
-use Rattle.server.specs.Steps.{Step, Setting, refused, answered, announced, given, completed, received, next_segment, understood, heard, taken, step}
+use Rattle.server.specs.States.{State, Idle, Upload}
+use Rattle.server.specs.Steps.{Step, answered, announced, given, next_segment, understood, heard, taken, step}
 use Rattle.server.specs.declared.node.Node.{Node}
 use Rattle.server.specs.Nodes.{Turns, Does, Serves, reaction, stepped, dictionary_by, shown, shown_transfer}
 
@@ -28,10 +26,6 @@ module _ {s t : Node} {r : Reaction} where
   turning e h = subst (λ (x : Step). Turns x s t r) e h
 
   module _ {D : Type 0} {meaning : D → List Entry} where
-    -- a step that sets nothing leaves the dictionary
-    pub leaving : (p : List Entry → Step) (d : D) → Turns (p (meaning d)) s t r → Does meaning p s t d d r
-    leaving p d h = record { answer = h.answer; node = h.node; dictionary = sym (ap (λ (o : Option Setting). dictionary_by o (meaning d)) h.unset) }
-
     pub doing : {p q : List Entry → Step} {d e : D} → p (meaning d) ≡ q (meaning d) → Does meaning p s t d e r → Does meaning q s t d e r
     doing {d = d} {e = e} same h =
         record {
@@ -65,21 +59,6 @@ module _ (m : Multiplexor) (t : Toggle) (v : List ℕ) where
 
   pub more_given : 7 < length v → answered (Upload m (other t) (drop 7 v)) (answer.UploadSegment t (take 7 v) false) ≡ next_segment m t v
   more_given h = rw (lt-leb (length v) 7 h)
-
--- a segment of a write: too long, the last one, or one before it
-module _ (d : List Entry) (w : DownloadStart) (t : Toggle) (last : Bool) (v : List ℕ) where
-  pub received_long : 1024 < length v → refused w.multiplexor LengthTooHigh ≡ received d w t last v
-  received_long h = rw (lt-ltb 1024 (length v) h)
-
-  pub received-last : length v ≤ 1024 → last ≡ true → completed d w v (answer.DownloadSegment t) ≡ received d w t last v
-  received-last h e = rw (le-ltb 1024 (length v) h, e)
-
-  pub received_more : length v ≤ 1024 → last ≡ false → answered (Download w (other t) v) (answer.DownloadSegment t) ≡ received d w t last v
-  received_more h e = rw (le-ltb 1024 (length v) h, e)
-
--- a test that two numbers differ, which failed
-pub same_number : (x y : ℕ) (r : Bool) → r ≡ not (eqb x y) → r ≡ false → x ≡ y
-same_number x y r e h = eqb-true x y (not-false (eqb x y) (sym e ∙ h))
 
 -- a frame with the node's identifier
 pub addressed : (d : List Entry) (s : State) (f : Frame) → f.identifier.number ≡ 0x600 + s.number.number → heard d s.block_size.number s.transfer f.bytes ≡ taken d s f
