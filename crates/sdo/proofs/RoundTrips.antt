@@ -5,7 +5,7 @@ use Rattle.wire.specs.AbortCodes.{number}
 use Rattle.wire.specs.declared.layout.Initiate.TheVariants.{Download, Upload}
 use Rattle.wire.specs.Fields.{multiplexor_bytes, multiplexor_in, number_bytes, number_in, abort_bytes, abort_code_in}
 use Rattle.wire.specs.Transfers.{transfer_bits, transfer_bytes, transfer_in, initiate_bytes}
-use Rattle.wire.specs.RoundTrips.{Indexed, Sized}
+use Rattle.wire.specs.Fits.{Indexed, Sized}
 use Rattle.wire.proofs.FieldsBack.{two_bytes, four_bytes, four_bits, multiplexor_back, download_back, upload_back, code_back}
 use Rattle.sdo.specs.Fields.{set_bit, last_seven}
 use Rattle.sdo.specs.Segments.{segment_bytes, data_in, last_in}

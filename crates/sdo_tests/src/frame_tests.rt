@@ -11,7 +11,6 @@ const RAMP: Multiplexor = Multiplexor {
 };
 
 /// The start of a write of these bytes to the ramp.
-// Not shared with the tests of the other messages, whose Request is another type.
 fn write(value: &[u8]) -> Result<Request, Fail> {
     let data = ExpeditedData::new(value).ok_or_else(|| Fail::new("not one to four bytes"))?;
     Ok(Request::InitiateDownload {

@@ -4,11 +4,7 @@
 #[cfg(test)]
 mod crc_tests;
 #[cfg(test)]
-mod frame_tests;
-#[cfg(test)]
 mod line_tests;
-#[cfg(test)]
-mod node_tests;
 #[cfg(test)]
 mod order_tests;
 #[cfg(test)]

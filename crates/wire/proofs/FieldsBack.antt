@@ -6,7 +6,7 @@ use Rattle.wire.specs.declared.abort_code.AbortCode.{AbortCode}
 use Rattle.wire.specs.Transfers.{Transfer, Expedited, Segmented, transfer_bits, transfer_bytes, transfer_in}
 use Rattle.wire.specs.AbortCodes.{number, code}
 use Rattle.wire.specs.Fields.{multiplexor_bytes, multiplexor_in, abort_bytes, abort_code_in}
-use Rattle.wire.specs.RoundTrips.{Indexed, Carried, Proper}
+use Rattle.wire.specs.Fits.{Indexed, Carried, Proper}
 
 pub two_bytes : (n : ℕ) → n < 2 ^ 16 → n % 256 + n / 256 % 256 * 256 ≡ n
 two_bytes n h = omega arith

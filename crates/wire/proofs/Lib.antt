@@ -1,4 +1,4 @@
 pub mod FieldsBack
 pub mod Identifiers
-pub mod RoundTrips
+pub mod Codes
 pub mod Spelling

@@ -1,5 +1,5 @@
 -- The abort codes of CiA 301: one list of cases, numbers and words.
-use Rattle.std.specs.Prelude.{ℕ, cond, List, [], ◌∷◌, codes, ◌==◌}
+use Rattle.std.specs.Prelude.{◌≡◌, ◌≢◌, ℕ, cond, List, [], ◌∷◌, codes, ◌==◌}
 use Rattle.wire.specs.declared.abort_code.AbortCode.{AbortCode}
 use Rattle.wire.specs.declared.abort_code.AbortCode.TheVariants.{ToggleNotAlternated, TimedOut, UnknownCommand, InvalidBlockSize, InvalidSequenceNumber, CrcError, OutOfMemory, WriteOnly, ReadOnly, NoObject, LengthMismatch, LengthTooHigh, LengthTooLow, NoSubindex, InvalidValue, GeneralError, Other}
 
@@ -44,3 +44,7 @@ code_among (c ∷ cs) n = cond (n == number c) c (code_among cs n)
 
 abbrev pub code : ℕ → AbortCode
 code n = code_among rows n
+
+-- every number is that of its code, and every code that has a name is that of its number
+abbrev pub CodesReadBack : Type 0
+CodesReadBack = ((n : ℕ) → number (code n) ≡ n) × ((c : AbortCode) → ((n : ℕ) → c ≢ Other n) → code (number c) ≡ c)

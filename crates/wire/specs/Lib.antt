@@ -4,8 +4,6 @@ pub mod Ranges
 pub mod FrameData
 pub mod Fields
 pub mod Transfers
-pub mod Requests
-pub mod Answers
 pub mod Frames
 pub mod Texts
-pub mod RoundTrips
+pub mod Fits

@@ -1,6 +1,6 @@
 //! Why an SDO transfer was aborted (CiA 301, 7.2.4.3.17: abort SDO transfer protocol, its table of codes).
 ghost use Rattle.std.specs.Prelude.{◌≡◌};
-ghost use Rattle.wire.specs.AbortCodes.{number, words, code};
+ghost use Rattle.wire.specs.AbortCodes.{number, words, code, CodesReadBack};
 
 /// The abort codes of CiA 301 that have a name here, and any other.
 #[derive(Clone, Copy, PartialEq, Eq, Debug)]
@@ -104,3 +104,8 @@ impl From<u32> for AbortCode {
         }
     }
 }
+
+/// States that abort codes and their numbers read back as each other.
+pub fn codes_read_back()
+    ensures { CodesReadBack }
+{}
