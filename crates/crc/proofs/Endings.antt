@@ -11,7 +11,7 @@ after_bits-below : (n r b : ℕ) → r < 2 ^ 16 → after_bits n r b < 2 ^ 16
 after_bits-below zero r b h = h
 after_bits-below (suc n) r b h = after_bits-below n (after_bit r (bit n b)) b (after_bit-below r (bit n b))
 
-after_bytes-below : (r : ℕ) (bs : List ℕ) → r < 2 ^ 16 → after_bytes r bs < 2 ^ 16
+pub after_bytes-below : (r : ℕ) (bs : List ℕ) → r < 2 ^ 16 → after_bytes r bs < 2 ^ 16
 unfolding after_byte
 after_bytes-below r [] h = h
 after_bytes-below r (b ∷ bs) h = after_bytes-below (after_byte r b) bs (after_bits-below 8 r b h)

@@ -1,3 +1,3 @@
 mod Linearity
 mod Bytes
-mod Endings
+pub mod Endings
