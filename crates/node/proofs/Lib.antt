@@ -1,2 +1,9 @@
-pub mod Addressing
-pub mod Verdicts
+pub mod AnswerLaws
+pub mod Choosing
+pub mod CommitLaws
+pub mod Loading
+pub mod OnceLaws
+pub mod RunLaws
+pub mod Sorting
+pub mod TimeLaws
+pub mod Turning

@@ -1,54 +1,102 @@
--- What a step makes of the node, of its dictionary and of what it answers.
-use Rattle.std.specs.Prelude.{◌≡◌, ℕ, ◌+◌, ◌%◌, List, Some, None, Option}
+-- What serving a frame and a tick make of a node and its dictionary, and how a node of the code stands for a state.
+use Rattle.std.specs.Prelude.{◌≡◌, ℕ, ◌+◌, ◌%◌, cond, List, drop, Some, None, Option, nat_le}
 use Rattle.std.specs.Option.{option_map}
+use Rattle.wire.specs.declared.frame.Frame.{Frame}
 use Rattle.wire.specs.declared.node_number.NodeNumber.{NodeNumber}
-use Rattle.wire.specs.Frames.{answer_frame}
-use Rattle.wire.specs.Answers.{Answer, InitiateDownload, Abort}
+use Rattle.wire.specs.declared.abort_code.AbortCode.TheVariants.{TimedOut}
+use Rattle.sdo.specs.Blocks.{BlockSize}
+use Rattle.sdo.specs.Answers.{Answer}
+use Rattle.sdo.specs.Answers as answer
+use Rattle.sdo.specs.Frames.{answer_frame}
 use Rattle.dictionary.specs.Entries.{Entry, put}
 use Rattle.node.specs.declared.node.Node.{Node}
 use Rattle.node.specs.declared.reaction.Reaction.{Reaction}
-use Rattle.node.specs.declared.served.Served.{Served}
-use Rattle.node.specs.declared.served.Served.TheVariants.{Committed, Aborted, Answered, Dropped}
-use Rattle.node.specs.Steps.{Step, Commit, Refuse, Reply, Ignore}
+use Rattle.node.specs.declared.transfer.Transfer as declared
+use Rattle.node.specs.States.{State, Transfer, Idle, Download, Upload, BlockDownload, BlockEnd, is_idle, named}
+use Rattle.node.specs.Steps.{Step, Setting, step}
 
--- a node that has set nothing yet
-abbrev pub fresh : NodeNumber → Node
-fresh n = record { number = n; commits = 0 }
+-- a node that has served nothing yet
+abbrev pub fresh : NodeNumber → BlockSize → State
+fresh n b = record { number = n; block_size = b; transfer = Idle; ticks = 0; commits = 0 }
 
-abbrev pub served_by : Step → Served
-served_by (Commit m v) = Committed
-served_by (Refuse m c) = Aborted
-served_by (Reply a) = Answered
-served_by Ignore = Dropped
+-- only a value that is set changes the dictionary, and just then the count of 16 bits grows by one, wrapping
+abbrev pub dictionary_by : Option Setting → List Entry → List Entry
+dictionary_by None d = d
+dictionary_by (Some v) d = put v.multiplexor v.value d
 
-abbrev pub answer_by : Step → Option Answer
-answer_by (Commit m v) = Some (InitiateDownload m)
-answer_by (Refuse m c) = Some (Abort m c)
-answer_by (Reply a) = Some a
-answer_by Ignore = None
+abbrev pub commits_by : Option Setting → ℕ → ℕ
+commits_by None n = n
+commits_by (Some v) n = (n + 1) % 65536
+
+-- the node after a frame: any frame that is taken restarts its time
+abbrev pub stepped : Step → State → State
+stepped p s = record s { transfer = p.next; ticks = 0; commits = commits_by p.set s.commits }
+
+abbrev pub state_after : Option Frame → Step → State → State
+state_after None p s = s
+state_after (Some f) p s = stepped p s
 
 -- what serve answers
 abbrev pub reaction : NodeNumber → Step → Reaction
-reaction n s = record { served = served_by s; reply = option_map (answer_frame n) (answer_by s) }
+reaction n p = record { served = p.served; reply = option_map (answer_frame n) p.reply }
 
--- only a commit changes the dictionary, and just then the count of 16 bits grows by one, wrapping
-abbrev pub dictionary_after : Step → List Entry → List Entry
-dictionary_after (Commit m v) d = put m v d
-dictionary_after (Refuse m c) d = d
-dictionary_after (Reply a) d = d
-dictionary_after Ignore d = d
+-- what comes of a tick: the node afterwards, and its own message
+pub record Tick : Type 0 where
+  pub next : State
+  pub reply : Option Answer
 
-abbrev pub commits_after : Step → ℕ → ℕ
-commits_after (Commit m v) n = (n + 1) % 65536
-commits_after (Refuse m c) n = n
-commits_after (Reply a) n = n
-commits_after Ignore n = n
+abbrev pub timed_out : State → Tick
+timed_out s = record { next = record s { transfer = Idle; ticks = 0 }; reply = Some (answer.Abort (named s.transfer) TimedOut) }
 
-abbrev pub counted : Step → Node → Node
-counted s n = record { number = n.number; commits = commits_after s n.commits }
+abbrev pub waited : State → Tick
+waited s = record { next = record s { ticks = s.ticks + 1 }; reply = None }
 
--- a step that was made: the answer, the node and the dictionary afterwards
-pub record Does (s : Step) (n m : Node) (d e : List Entry) (r : Reaction) : Type 0 where
-  pub answer : r ≡ reaction n.number s
-  pub node : m ≡ counted s n
-  pub dictionary : e ≡ dictionary_after s d
+-- the 25th tick since a frame was taken ends a transfer
+unfoldable pub tick : State → Tick
+tick s =
+    cond (is_idle s.transfer) (record { next = s; reply = None })
+    (cond (nat_le 25 (s.ticks + 1)) (timed_out s)
+    (waited s))
+
+-- the transfer of a node of the code, whose bytes are in its buffer
+abbrev pub shown_transfer : declared.Transfer → List ℕ → Transfer
+shown_transfer declared.TheVariants.Idle v = Idle
+shown_transfer (declared.TheVariants.Download w u) v = Download w u v
+shown_transfer (declared.TheVariants.Upload r) v = Upload r.multiplexor r.toggle (drop r.given v)
+shown_transfer (declared.TheVariants.BlockDownload r) v = BlockDownload r v
+shown_transfer (declared.TheVariants.BlockEnd b) v = BlockEnd b v
+
+-- the state that a node of the code stands for
+abbrev pub shown : Node → State
+shown n = record {
+  number = n.number;
+  block_size = n.block_size;
+  transfer = shown_transfer n.transfer n.buffer;
+  ticks = n.ticks;
+  commits = n.commits;
+}
+
+-- a step that sets nothing: the answer and the node afterwards
+pub record Turns (p : Step) (s t : Node) (r : Reaction) : Type 0 where
+  pub answer : r ≡ reaction s.number p
+  pub node : shown t ≡ stepped p (shown s)
+  pub unset : p.set ≡ None
+
+-- a tick: the frame sent and the node afterwards
+pub record Ticks (s t : Node) (r : Option Frame) : Type 0 where
+  pub answer : r ≡ option_map (answer_frame s.number) (tick (shown s)).reply
+  pub node : shown t ≡ (tick (shown s)).next
+
+-- over dictionaries of any kind, by their entries
+module _ {D : Type 0} (meaning : D → List Entry) where
+  -- a step that looks at the entries: the answer, the node and the dictionary afterwards
+  pub record Does (p : List Entry → Step) (s t : Node) (d e : D) (r : Reaction) : Type 0 where
+    pub answer : r ≡ reaction s.number (p (meaning d))
+    pub node : shown t ≡ stepped (p (meaning d)) (shown s)
+    pub dictionary : meaning e ≡ dictionary_by (p (meaning d)).set (meaning d)
+
+  -- serving a frame, or none: the answer, the node and the dictionary afterwards
+  pub record Serves (taken : Option Frame) (s t : Node) (d e : D) (r : Reaction) : Type 0 where
+    pub answer : r ≡ reaction s.number (step (meaning d) (shown s) taken)
+    pub node : shown t ≡ state_after taken (step (meaning d) (shown s) taken) (shown s)
+    pub dictionary : meaning e ≡ dictionary_by (step (meaning d) (shown s) taken).set (meaning d)

@@ -1,25 +1,45 @@
-//! A node: the SDO server of CiA 301, idle between frames.
+//! A node: the SDO server of CiA 301.
 ghost use Rattle.std.specs.Prelude.{◌≡◌};
-ghost use Rattle.node.specs.Nodes.{fresh};
+ghost use Rattle.node.specs.Nodes.{fresh, shown};
+ghost use Rattle.node.specs.States.{is_idle};
 
+use crate::buffer::Buffer;
+use crate::transfer::Transfer;
+use sdo::BlockSize;
 use wire::NodeNumber;
 
+mod blocks;
+mod reading;
 mod serving;
+mod time;
+mod turns;
+mod writing;
 
-/// A node by its number, and how many values it has set, modulo 65,536.
-// The server of all transfers has a `Node` of its own, whose transfer may be open; in this one none ever is.
-#[derive(Clone, Copy, Debug)]
+// It has no model: that would be the state alone, and the steps' contracts also speak of what the buffer holds outside a transfer.
+/// A node by its number and the size of its sub-blocks, what it is doing, the ticks since it took a frame, and how many values it has set, modulo 65,536.
+#[derive(Drop)]
 pub struct Node {
     number: NodeNumber,
+    block_size: BlockSize,
+    transfer: Transfer,
+    buffer: Buffer,
+    ticks: u8,
     commits: u16,
 }
 
 impl Node {
-    /// A node that has set nothing yet.
-    pub fn new(number: NodeNumber) -> Node
-        ensures { result ≡ fresh number }
+    /// An idle node that has set nothing yet.
+    pub fn new(number: NodeNumber, block_size: BlockSize) -> Node
+        ensures { shown result ≡ fresh number block_size }
     {
-        Node { number, commits: 0 }
+        Node {
+            number,
+            block_size,
+            transfer: Transfer::Idle,
+            buffer: Buffer::new(),
+            ticks: 0,
+            commits: 0,
+        }
     }
 
     /// The node's number.
@@ -34,5 +54,12 @@ impl Node {
         ensures { result ≡ self.now.commits }
     {
         self.commits
+    }
+
+    /// Whether the node is in no transfer.
+    pub fn is_idle(&self) -> bool
+        ensures { result ≡ is_idle (shown self.now).transfer }
+    {
+        matches!(self.transfer, Transfer::Idle)
     }
 }

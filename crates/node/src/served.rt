@@ -1,15 +1,18 @@
 //! What became of a frame that a node took.
 
 /// The first of these that fits.
-// No Option of three: that a frame was dropped is told as the others are.
-#[derive(Clone, Copy, PartialEq, Eq, Debug)]
+#[derive(Clone, Copy, PartialEq)]
 pub enum Served {
+    /// There was no frame.
+    NothingWaited,
     /// A value was set in the dictionary.
     Committed,
-    /// An abort was sent.
+    /// An abort was sent, or one was heard that ended a transfer.
     Aborted,
     /// Another answer was sent.
     Answered,
     /// Nothing was done.
     Dropped,
+    /// A segment was kept, and its answer comes with that of a later one.
+    Kept,
 }

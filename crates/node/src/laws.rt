@@ -1,0 +1,32 @@
+//! What follows for every node from what its steps and ticks are defined to be.
+ghost use Rattle.node.specs.Laws.{CommitsTold, OthersLeave, TicksLeave, AbortsLeaveIdle, ForeignDropped, StartsReplace, AbortsHeard, OthersRefused, UnknownRefused, BlockAborted, BlockStays};
+ghost use Rattle.node.specs.Runs.{OneAtMost, ValuesCarried};
+ghost use Rattle.node.specs.Laws.{FramesRestart, NoneChangesNothing, TimeRunsOut};
+
+/// Only a commit changes the dictionary, it is told and counted, a transfer has one at most, and its value is what the transfer carried. It does nothing; its contract states the laws.
+pub fn commit_laws()
+    ensures commits_told { CommitsTold }
+    ensures others_leave { OthersLeave }
+    ensures ticks_leave { TicksLeave }
+    ensures one_at_most { OneAtMost }
+    ensures values_carried { ValuesCarried }
+{}
+
+/// What a node makes of starts, aborts and all that it does not await. It does nothing; its contract states the laws.
+pub fn answer_laws()
+    ensures aborts_leave_idle { AbortsLeaveIdle }
+    ensures foreign_dropped { ForeignDropped }
+    ensures starts_replace { StartsReplace }
+    ensures aborts_heard { AbortsHeard }
+    ensures others_refused { OthersRefused }
+    ensures unknown_refused { UnknownRefused }
+    ensures block_aborted { BlockAborted }
+    ensures block_stays { BlockStays }
+{}
+
+/// When a node's time runs out. It does nothing; its contract states the laws.
+pub fn time_laws()
+    ensures frames_restart { FramesRestart }
+    ensures none_changes_nothing { NoneChangesNothing }
+    ensures time_runs_out { TimeRunsOut }
+{}

@@ -1,8 +1,0 @@
-pub mod AnswerLaws
-pub mod Choosing
-pub mod CommitLaws
-pub mod Loading
-pub mod RunLaws
-pub mod Sorting
-pub mod TimeLaws
-pub mod Turning

@@ -1,5 +1,0 @@
-use Rattle.server.proofs.TimeLaws.{frames_restart, none_changes_nothing, time_runs_out}
-use Rattle.server.proofs.laws.time_laws.Goals as goal
-
-pub returns : goal.returns
-returns c = record { frames_restart = frames_restart; none_changes_nothing = none_changes_nothing; time_runs_out = time_runs_out }
