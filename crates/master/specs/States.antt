@@ -38,6 +38,14 @@ cleared_phase p = p
 abbrev pub clear : State → State
 clear s = in_phase (cleared_phase s.phase) s
 
+-- the number of the latest transfer, unless it is cleared
+abbrev pub number_unless_idle : Phase → ℕ → Option ℕ
+number_unless_idle Idle n = None
+number_unless_idle p n = Some n
+
+abbrev pub uncleared : State → Option ℕ
+uncleared s = number_unless_idle s.phase s.begun
+
 -- how a transfer that is over ended
 abbrev pub ending_in : Phase → Option (Result (Unit {0}) Failure)
 ending_in (Over e) = Some e

@@ -1,6 +1,6 @@
 //! A master: the SDO client of CiA 301, which carries out one transfer at a time.
 ghost use Rattle.std.specs.Prelude.{◌≡◌, ◌≤◌, length};
-ghost use Rattle.master.specs.States.{fresh, clear, ending_in};
+ghost use Rattle.master.specs.States.{fresh, clear, uncleared, ending_in};
 
 use crate::phase::{Ending, Phase};
 use crate::value::Value;
@@ -52,6 +52,23 @@ impl Master {
             ticks: 0,
             rest: 0,
         }
+    }
+
+    /// The number of the latest transfer; none where it was cleared, or nothing was begun.
+    pub fn uncleared(&self) -> Option<u16>
+        ensures { result ≡ uncleared self.now }
+    {
+        match self.phase {
+            Phase::Idle => None,
+            Phase::Open(_) | Phase::Over(_) => Some(self.begun),
+        }
+    }
+
+    /// The multiplexor of the latest transfer.
+    pub fn multiplexor(&self) -> Multiplexor
+        ensures { result ≡ self.now.multiplexor }
+    {
+        self.multiplexor
     }
 
     /// How the latest transfer ended; none where it is open or was cleared.

@@ -27,6 +27,9 @@ fn a_start_needs_its_multiplexor(rt: HostRuntime) -> Result<(), Fail> {
     let mut master = reading()?;
     let other = [0x43, 1, 0x20, 1, 0, 0, 0, 0];
     check_found(&rt, &mut master, other, AbortCode::UnknownCommand)?;
+    let mut master = writing(Method::Segmented, &DIGITS)?;
+    let other = [0x60, 1, 0x20, 1, 0, 0, 0, 0];
+    check_found(&rt, &mut master, other, AbortCode::UnknownCommand)?;
     let mut master = writing(Method::Block, &DIGITS)?;
     let other = [0xa4, 1, 0x21, 0, 127, 0, 0, 0];
     check_found(&rt, &mut master, other, AbortCode::UnknownCommand)
@@ -34,10 +37,14 @@ fn a_start_needs_its_multiplexor(rt: HostRuntime) -> Result<(), Fail> {
 
 #[test]
 fn only_the_awaited_kind_is_taken(rt: HostRuntime) -> Result<(), Fail> {
-    for command in [0, 0x20, 0x43, 0xa0, 0xa1, 0xa2, 0xa3, 0xc0, 0xe0] {
-        let mut master = writing(Method::Expedited, &[1])?;
-        let other = [command, 1, 0x20, 0, 1, 0, 0, 0];
-        check_found(&rt, &mut master, other, AbortCode::UnknownCommand)?;
+    for (awaited, kind) in ALL_AWAITED {
+        for command in [0, 0x20, 0x43, 0x60, 0xa0, 0xa1, 0xa2, 0xa3, 0xc0, 0xe0] {
+            if command != kind {
+                let mut master = awaiting(awaited)?;
+                let other = [command, 1, 0x20, 0, 1, 0, 0, 0];
+                check_found(&rt, &mut master, other, AbortCode::UnknownCommand)?;
+            }
+        }
     }
     Ok(())
 }
@@ -57,6 +64,9 @@ fn a_total_has_to_be_the_size(rt: HostRuntime) -> Result<(), Fail> {
     let mut master = reading_segments(6)?;
     let five = [5, 0x31, 0x32, 0x33, 0x34, 0x35, 0, 0];
     check_found(&rt, &mut master, five, AbortCode::LengthMismatch)?;
+    let mut master = reading_segments(6)?;
+    let seven = [1, 0x31, 0x32, 0x33, 0x34, 0x35, 0x36, 0x37];
+    check_found(&rt, &mut master, seven, AbortCode::LengthMismatch)?;
     let mut master = reading_segments(6)?;
     let none = [0x0f, 0, 0, 0, 0, 0, 0, 0];
     check_found(&rt, &mut master, none, AbortCode::OutOfMemory)
@@ -137,12 +147,32 @@ fn a_late_answer_is_dropped(rt: HostRuntime) -> Result<(), Fail> {
 
 #[test]
 fn an_abort_ends_any_transfer(rt: HostRuntime) -> Result<(), Fail> {
-    let mut master = writing(Method::Expedited, &[1])?;
-    let hearing = hear(&mut master, [0x80, 0, 0, 0, 2, 0, 1, 6]);
-    assert!(rt; hearing.heard == Heard::Over && hearing.sending.quiet);
-    assert!(rt; master.frame(hearing.sending.batch, 0).is_none());
-    let failure = failure(&master)?;
-    assert!(rt; failure.code == AbortCode::ReadOnly);
-    assert!(rt; failure.finder == Finder::Node && !failure.may_be_set);
+    for (awaited, _) in ALL_AWAITED {
+        let mut master = awaiting(awaited)?;
+        let hearing = hear(&mut master, [0x9f, 0, 0, 0, 2, 0, 1, 6]);
+        assert!(rt; hearing.heard == Heard::Over && hearing.sending.quiet);
+        assert!(rt; master.frame(hearing.sending.batch, 0).is_none());
+        let failure = failure(&master)?;
+        assert!(rt; failure.code == AbortCode::ReadOnly);
+        assert!(rt; failure.finder == Finder::Node && !failure.may_be_set);
+    }
+    Ok(())
+}
+
+#[test]
+fn a_read_segment_may_have_no_bytes(rt: HostRuntime) -> Result<(), Fail> {
+    let mut master = reading_segments(2)?;
+    let none = [0x0e, 0, 0, 0, 0, 0, 0, 0];
+    check_goes_on(&rt, &mut master, none, [0x70, 0, 0, 0, 0, 0, 0, 0])?;
+    check_done(&rt, &mut master, [0x1b, 1, 2, 0, 0, 0, 0, 0])?;
+    assert!(rt; master.value() == [1, 2].as_slice());
+    Ok(())
+}
+
+#[test]
+fn a_value_at_once_without_a_size_has_four_bytes(rt: HostRuntime) -> Result<(), Fail> {
+    let mut master = reading()?;
+    check_done(&rt, &mut master, [0x42, 1, 0x20, 0, 1, 2, 3, 4])?;
+    assert!(rt; master.value() == [1, 2, 3, 4].as_slice());
     Ok(())
 }

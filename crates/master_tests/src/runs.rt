@@ -56,6 +56,53 @@ pub(crate) fn writing_block() -> Result<Master, Fail> {
     Ok(master)
 }
 
+/// An open transfer of 2001:00, by the answer that is awaited.
+#[derive(Clone, Copy)]
+pub(crate) enum Awaited {
+    ExpeditedDownload,
+    InitiateDownload,
+    DownloadSegment,
+    InitiateUpload,
+    UploadSegment,
+    InitiateBlockDownload,
+    BlockDownload,
+    EndBlockDownload,
+}
+
+/// All of them, each with a command of the kind that is awaited.
+pub(crate) const ALL_AWAITED: [(Awaited, u8); 8] = [
+    (Awaited::ExpeditedDownload, 0x60),
+    (Awaited::InitiateDownload, 0x60),
+    (Awaited::DownloadSegment, 0x20),
+    (Awaited::InitiateUpload, 0x43),
+    (Awaited::UploadSegment, 0),
+    (Awaited::InitiateBlockDownload, 0xa0),
+    (Awaited::BlockDownload, 0xa2),
+    (Awaited::EndBlockDownload, 0xa1),
+];
+
+/// A master with an open transfer that awaits an answer.
+pub(crate) fn awaiting(awaited: Awaited) -> Result<Master, Fail> {
+    match awaited {
+        Awaited::ExpeditedDownload => writing(Method::Expedited, &[1]),
+        Awaited::InitiateDownload => writing(Method::Segmented, &DIGITS),
+        Awaited::DownloadSegment => {
+            let mut master = writing(Method::Segmented, &DIGITS)?;
+            let _ = hear(&mut master, [0x60, 1, 0x20, 0, 0, 0, 0, 0]);
+            Ok(master)
+        }
+        Awaited::InitiateUpload => reading(),
+        Awaited::UploadSegment => reading_segments(9),
+        Awaited::InitiateBlockDownload => writing(Method::Block, &DIGITS),
+        Awaited::BlockDownload => writing_block(),
+        Awaited::EndBlockDownload => {
+            let mut master = writing_block()?;
+            let _ = hear(&mut master, [0xa2, 2, 127, 0, 0, 0, 0, 0]);
+            Ok(master)
+        }
+    }
+}
+
 /// Lets a master hear a frame of node 5.
 pub(crate) fn hear(master: &mut Master, bytes: [u8; 8]) -> Hearing {
     let identifier = Identifier::of_answers(NodeNumber::nearest(5));
