@@ -3,3 +3,4 @@ pub mod Queues
 pub mod Patterns
 pub mod Drops
 pub mod Lends
+pub mod Records

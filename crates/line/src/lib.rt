@@ -7,8 +7,14 @@ mod end;
 mod line;
 mod pattern;
 mod queue;
+mod recorder;
+mod recording;
+mod sent;
 
 pub use bounded_line::{BoundedLine, MailboxLine, MemoryLine};
 pub use drop_layer::DropLayer;
 pub use end::End;
 pub use line::Line;
+pub use recorder::Recorder;
+pub use recording::Recording;
+pub use sent::Sent;

@@ -1,5 +1,5 @@
 //! What the lines keep, lose and hand out.
-use line::{BoundedLine, DropLayer, End, Line, MailboxLine, MemoryLine};
+use line::{BoundedLine, DropLayer, End, Line, MailboxLine, MemoryLine, Recorder, Recording, Sent};
 use wire::{Frame, Identifier, NodeNumber};
 
 /// A frame that is told from others by a number.
@@ -143,4 +143,33 @@ fn layers_stand_on_layers(rt: HostRuntime) {
     assert_eq!(rt; carried(&mut line, 1), None);
     assert_eq!(rt; carried(&mut line, 2), None);
     assert_eq!(rt; carried(&mut line, 3), Some(numbered(3)));
+}
+
+/// What a recorder keeps of a frame that is told from others by a number.
+fn sent(to: End, number: u8) -> Sent {
+    Sent {
+        to,
+        frame: numbered(number),
+    }
+}
+
+#[test]
+fn a_recorder_keeps_the_last_three_lost_or_not(rt: HostRuntime) {
+    let mut line: Recorder<MailboxLine, 3> = Recorder::new(MailboxLine::new());
+    assert_eq!(rt; line.sent(), 0);
+    assert!(rt; line.since(0).is_empty());
+    for number in 0..4u8 {
+        line.send(End::Node, numbered(number));
+    }
+    line.send(End::Master, numbered(4));
+    let last = [sent(End::Node, 2), sent(End::Node, 3), sent(End::Master, 4)];
+    assert_eq!(rt; line.sent(), 5);
+    assert_eq!(rt; line.since(0), last.as_slice());
+    assert_eq!(rt; line.since(3), &last[1..]);
+    assert!(rt; line.since(5).is_empty());
+    assert_eq!(rt; line.take(End::Node), Some(numbered(0)));
+    assert_eq!(rt; line.take(End::Node), None);
+    line.quiet();
+    assert_eq!(rt; line.take(End::Master), None);
+    assert_eq!(rt; line.since(2), last.as_slice());
 }

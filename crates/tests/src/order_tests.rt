@@ -1,5 +1,5 @@
 //! Lines and texts of orders, as fitters write them and as they should not.
-use orders::{BadLine, Fault, LONGEST, Order, read_line, read_orders};
+use orders::{BadLine, Fault, LONGEST, Order, Transfer, read_line, read_orders};
 use std::alloc::Global;
 use std::fmt::Write;
 use std::process::Abort;
@@ -35,6 +35,15 @@ fn check_order(
     }
 }
 
+/// The transfer of the order on a line.
+fn transfer_on(heap: Global, line: &[u8]) -> Result<Transfer, Fail> {
+    match read_line(heap, line) {
+        Ok(Some(order)) => Ok(order.transfer),
+        Ok(None) => Err(Fail::new("passed over")),
+        Err(fault) => Err(Fail::new(fault)),
+    }
+}
+
 /// Checks that a line is passed over.
 fn check_passed(rt: &impl Abort, heap: Global, line: &[u8]) {
     assert!(rt; matches!(read_line(heap, line), Ok(None)));
@@ -49,14 +58,38 @@ fn told(heap: Global, text: &[u8]) -> Result<String, Fail> {
     Ok(all)
 }
 
+/// A line to 2001:00 with a number of bytes A5.
+fn line_of(heap: Global, count: usize) -> Result<String, Fail> {
+    let mut line = String::from_str(heap, "2001:00")?;
+    for _ in 0..count {
+        line.push_str(" A5")?;
+    }
+    Ok(line)
+}
+
 #[test]
-fn orders_of_one_to_four_bytes(rt: HostRuntime) -> Result<(), Fail> {
+fn orders_of_few_bytes(rt: HostRuntime) -> Result<(), Fail> {
     let heap = rt.alloc();
-    assert_eq!(rt; LONGEST, 4);
     check_order(&rt, heap, b"2000:01 05", 0x2000, 1, &[5])?;
     check_order(&rt, heap, b"1017:00 E8 03", 0x1017, 0, &[0xe8, 3])?;
     check_order(&rt, heap, b"FFFF:FF 00 01 02", 0xffff, 0xff, &[0, 1, 2])?;
-    check_order(&rt, heap, b"0000:00 00 00 00 00", 0, 0, &[0, 0, 0, 0])
+    check_order(&rt, heap, b"0000:00 00 00 00 00", 0, 0, &[0, 0, 0, 0])?;
+    check_order(
+        &rt,
+        heap,
+        b"2001:00 01 02 03 04 05 06 07 08",
+        0x2001,
+        0,
+        &[1, 2, 3, 4, 5, 6, 7, 8],
+    )
+}
+
+#[test]
+fn the_longest_order(rt: HostRuntime) -> Result<(), Fail> {
+    let heap = rt.alloc();
+    assert_eq!(rt; LONGEST, 1024);
+    let line = line_of(heap, 1024)?;
+    check_order(&rt, heap, line.as_bytes(), 0x2001, 0, &[0xa5; 1024])
 }
 
 #[test]
@@ -66,6 +99,89 @@ fn either_case_and_any_blanks(rt: HostRuntime) -> Result<(), Fail> {
     check_order(&rt, heap, b"  \t2000:01\t05  06 \t", 0x2000, 1, &[5, 6])?;
     check_order(&rt, heap, b"2000:01 05\r", 0x2000, 1, &[5])?;
     check_order(&rt, heap, b"2000:01 05 \r", 0x2000, 1, &[5])
+}
+
+#[test]
+fn transfers_by_length(rt: HostRuntime) -> Result<(), Fail> {
+    let heap = rt.alloc();
+    for (count, transfer) in [
+        (1, Transfer::Expedited),
+        (4, Transfer::Expedited),
+        (5, Transfer::Segmented),
+        (56, Transfer::Segmented),
+        (57, Transfer::Block),
+        (1024, Transfer::Block),
+    ] {
+        let line = line_of(heap, count)?;
+        assert_eq!(rt;
+            transfer_on(heap, line.as_bytes())?,
+            transfer,
+            "of {count} bytes"
+        );
+    }
+    Ok(())
+}
+
+#[test]
+fn transfers_by_name(rt: HostRuntime) -> Result<(), Fail> {
+    let heap = rt.alloc();
+    check_order(&rt, heap, b"expedited 2000:01 E8 03", 0x2000, 1, &[0xe8, 3])?;
+    check_order(
+        &rt,
+        heap,
+        b" \tblock\t2000:01  E8 03 \r",
+        0x2000,
+        1,
+        &[0xe8, 3],
+    )?;
+    for (line, transfer) in [
+        (
+            b"expedited 2001:00 01 02 03 04".as_slice(),
+            Transfer::Expedited,
+        ),
+        (b"segmented 2001:00 01".as_slice(), Transfer::Segmented),
+        (b"block 2001:00 01 02 03 04 05".as_slice(), Transfer::Block),
+    ] {
+        assert_eq!(rt; transfer_on(heap, line)?, transfer);
+    }
+    let longest = line_of(heap, 1024)?;
+    let line = format!(in heap; "segmented {longest}")?;
+    assert_eq!(rt; transfer_on(heap, line.as_bytes())?, Transfer::Segmented);
+    Ok(())
+}
+
+#[test]
+fn names_that_are_none(rt: HostRuntime) -> Result<(), Fail> {
+    let heap = rt.alloc();
+    let text =
+        b"Block 2000:01 05\nBLOCK 2000:01 05\nblocks 2000:01 05\nbloc 2000:01 05\nblock\nblock block 2000:01 05\n2000:01 block 05\nsegmented 2000:1 05\n";
+    let reading = read_orders(heap, text)?;
+    assert!(rt; reading.bad.len() == 8);
+    for bad in reading.bad {
+        let wanted = if bad.line == 7 {
+            Fault::NotByte(1)
+        } else {
+            Fault::NotMultiplexor
+        };
+        assert_eq!(rt; bad.fault, wanted, "on line {}", bad.line);
+    }
+    Ok(())
+}
+
+#[test]
+fn more_than_go_expedited(rt: HostRuntime) -> Result<(), Fail> {
+    let heap = rt.alloc();
+    let over = line_of(heap, 1025)?;
+    let text = format!(in heap;
+        "expedited 2001:00 01 02 03 04 05\nexpedited 2001:00 01 02 03 04 05 zz\nexpedited {over}\nexpedited 2001:00\n"
+    )?;
+    let words = "line 1: more than 4 bytes do not go expedited
+line 2: byte 6 is not two hex digits
+line 3: more than 1024 bytes follow the index and subindex
+line 4: no bytes follow the index and subindex
+";
+    assert_eq!(rt; told(heap, text.as_bytes())?.as_str(), words);
+    Ok(())
 }
 
 #[test]
@@ -79,7 +195,7 @@ fn lines_to_pass_over(rt: HostRuntime) {
 }
 
 #[test]
-fn first_words_that_are_no_multiplexor(rt: HostRuntime) -> Result<(), Fail> {
+fn words_that_are_no_multiplexor(rt: HostRuntime) -> Result<(), Fail> {
     let heap = rt.alloc();
     let text =
         b"2000:1 05\n2000 01 05\n200:01 05\n2000:011 05\n200G:01 05\n2000;01 05\n\xc3\xa4000:01 05\n # 2000:01 05\n20000:01\n";
@@ -89,7 +205,7 @@ fn first_words_that_are_no_multiplexor(rt: HostRuntime) -> Result<(), Fail> {
         assert_eq!(rt; bad.fault, Fault::NotMultiplexor);
     }
     let words =
-        "line 1: the first word is not IIII:SS, an index of four and a subindex of two hex digits\n";
+        "line 1: no IIII:SS, an index of four and a subindex of two hex digits, at the start or behind expedited, segmented or block\n";
     assert_eq!(rt; told(heap, b"2000:1 05")?.as_str(), words);
     Ok(())
 }
@@ -111,12 +227,15 @@ line 6: byte 1 is not two hex digits
 
 #[test]
 fn one_byte_too_many(rt: HostRuntime) -> Result<(), Fail> {
-    let text = b"2000:01 01 02 03 04 05\n2000:01 01 02 03 04 05 zz\n2000:01 01 02 03 04 # ramp\n";
-    let words = "line 1: more than 4 bytes follow the index and subindex
-line 2: more than 4 bytes follow the index and subindex
-line 3: byte 5 is not two hex digits
+    let heap = rt.alloc();
+    let full = line_of(heap, 1024)?;
+    let over = line_of(heap, 1025)?;
+    let text = format!(in heap; "{over}\n{over} zz\n{full} # ramp\n")?;
+    let words = "line 1: more than 1024 bytes follow the index and subindex
+line 2: more than 1024 bytes follow the index and subindex
+line 3: byte 1025 is not two hex digits
 ";
-    assert_eq!(rt; told(rt.alloc(), text)?.as_str(), words);
+    assert_eq!(rt; told(heap, text.as_bytes())?.as_str(), words);
     Ok(())
 }
 

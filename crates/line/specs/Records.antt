@@ -1,0 +1,22 @@
+-- What a recorder keeps of the frames that were sent.
+use Rattle.std.specs.Prelude.{◌≡◌, ℕ, ◌+◌, ◌-◌, ◌^◌, min, List, [], ◌∷◌, ◌++◌, length, drop}
+use Rattle.std.proofs.Common.{arith}
+use Rattle.wire.specs.Frames.{request_identifier}
+use Rattle.line.specs.declared.end.End.TheVariants.{Node}
+use Rattle.line.specs.declared.sent.Sent.{Sent}
+
+-- the last of some items, so many of them, or all where there are no more
+abbrev pub newest : {A : Type 0} → ℕ → List A → List A
+newest count xs = drop (length xs - count) xs
+
+-- one more, as far as 64 bits count
+abbrev pub counted : ℕ → ℕ
+counted n = min (n + 1) (2 ^ 64 - 1)
+
+-- what is kept frame by frame are the newest of all frames
+abbrev pub NewestOfAll : Type 0
+NewestOfAll = (room : ℕ) (all : List Sent) (next : Sent) → newest room (newest room all ++ next ∷ []) ≡ newest room (all ++ next ∷ [])
+
+-- a place that holds no frame has a frame of zeros to node 1
+abbrev pub vacant : Sent
+vacant = record { to = Node; frame = record { identifier = request_identifier (record { number = 1; low = omega arith; high = omega arith }); bytes = 0 ∷ 0 ∷ 0 ∷ 0 ∷ 0 ∷ 0 ∷ 0 ∷ 0 ∷ [] } }
