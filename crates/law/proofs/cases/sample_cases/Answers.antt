@@ -1,0 +1,30 @@
+-- Each case is computed.
+use Rattle.std.proofs.Common.{refl}
+use Rattle.crc.specs.Registers.{after_bit, after_byte}
+use Rattle.master.specs.Calls.{begin, tick}
+use Rattle.master.specs.Steps.{hear}
+use Rattle.node.specs.Steps.{step}
+use Rattle.law.specs.Calls.{begin_step, serve_step, hear_step, tick_step}
+use Rattle.law.proofs.cases.sample_cases.Goals as goal
+
+pub returns : goal.returns
+unfolding after_bit after_byte begin tick hear step begin_step serve_step hear_step tick_step
+returns c = record {
+  write_asked = refl;
+  write_commits = refl;
+  write_answered = refl;
+  write_stored = refl;
+  device_type_given = refl;
+  device_name_announced = refl;
+  device_name_given = refl;
+  read_only_refused = λ a b c d. refl;
+  segments_sent = refl;
+  end_sent = refl;
+  digits_stored = refl;
+  crc_of_no_bytes = refl;
+  ninth_tick = refl;
+  after_ninth_tick = refl;
+  tenth_tick = refl;
+  longest_begins = λ v h. rw h refl;
+  longer_refused = λ v h. rw h refl;
+}
