@@ -1,0 +1,23 @@
+//! What the calls of a bench answer.
+use arrayvec::ArrayVec;
+use master::{BeginRefusal, Heard};
+use node::Served;
+use report::{Report, SettleRefusal};
+
+/// The answer to one call.
+#[derive(Drop)]
+pub enum Answer {
+    /// To the begin of a read or a write: the number of its ticket.
+    Begun(Result<u16, BeginRefusal>),
+    /// To a serve.
+    Served(Served),
+    /// To a hear.
+    Heard(Heard),
+    /// To a tick: whether it ended the transfer.
+    Ticked(bool),
+    /// To a settle; `read` has the bytes that a read has put into the buffer.
+    Settled {
+        report: Result<Report, SettleRefusal>,
+        read: ArrayVec<u8, 1024>,
+    },
+}

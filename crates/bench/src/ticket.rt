@@ -1,0 +1,39 @@
+//! The ticket of a transfer.
+ghost use Rattle.std.specs.Prelude.{◌≡◌};
+
+use std::marker::Model;
+
+/// The number of a transfer that has to be settled. Begin makes it, and settle alone takes it back.
+// Without Drop: a program that lets one go does not compile.
+pub struct Ticket {
+    number: u16,
+}
+
+impl Model for Ticket {
+    ghost use Rattle.std.specs.Prelude.{ℕ};
+
+    ghost Value = { ℕ };
+
+    ghost view = { λ ticket. ticket.number };
+}
+
+impl Ticket {
+    /// The ticket of a transfer that has just begun.
+    pub(crate) fn new(number: u16) -> Ticket
+        ensures { result ≡ number }
+    {
+        Ticket { number }
+    }
+
+    /// The transfer's number, from 1.
+    pub fn number(&self) -> u16
+        ensures { result ≡ self.now }
+    {
+        self.number
+    }
+
+    /// Takes the ticket of a transfer that is settled.
+    pub(crate) fn take_back(self) {
+        let Ticket { number: _ } = self;
+    }
+}
