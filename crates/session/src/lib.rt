@@ -1,0 +1,6 @@
+//! A bench with the ticket that is out, for programs that hold one ticket at a time.
+#![tactic(auto)]
+
+mod session;
+
+pub use session::{LONGEST, Session};
