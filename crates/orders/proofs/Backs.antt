@@ -1,16 +1,20 @@
 -- Written orders read back: word by word, line by line.
-use Rattle.std.proofs.Common.{◌≡◌, ℕ, ◌+◌, ◌-◌, ◌/◌, ◌%◌, ◌^◌, ◌<◌, ◌≤◌, Bool, true, false, cond, not, eqb, List, [], ◌∷◌, ◌++◌, map, length, get_or, Ok, refl, ap, ◌∙◌, append_assoc, append-nil, arith, length-append}
-use Rattle.std.proofs.lemmas.Bool.{cond-false, ne_eqb}
+use Rattle.std.proofs.Common.{◌≡◌, ℕ, ◌+◌, ◌-◌, ◌/◌, ◌%◌, ◌^◌, ◌<◌, ◌≤◌, Bool, true, false, cond, not, eqb, List, [], ◌∷◌, ◌++◌, map, length, get_or, Ok, Some, None, Option, refl, ap, ◌∙◌, append_assoc, append-nil, arith, length-append}
+use Rattle.std.proofs.lemmas.Bool.{cond-false, ne_eqb, and_parts}
 use Rattle.std.proofs.lemmas.Bool.Decides.{nat_tests}
 use Rattle.std.proofs.lemmas.List.Elements.{All-nil, All-cons, All-head, All-tail, All-append, All-get_or, All-weaker}
-use Rattle.std.specs.Prelude.{All}
-use Rattle.std.specs.List.{onto_first}
+use Rattle.std.specs.Prelude.{All, codes, nat_le}
+use Rattle.std.specs.List.{onto_first, list_all}
 use Rattle.wire.specs.declared.multiplexor.Multiplexor.{Multiplexor}
-use Rattle.orders.specs.Lines.{longest, is_comment, without_return, bytes_in, value_in, order_of, order_at, order_in}
+use Rattle.orders.specs.declared.fault.Fault.TheVariants.{NotExpedited}
+use Rattle.orders.specs.declared.transfer.Transfer.{Transfer}
+use Rattle.orders.specs.declared.transfer.Transfer.TheVariants.{Expedited, Segmented, Block}
+use Rattle.orders.specs.Lines.{faulty, longest, is_comment, without_return, bytes_in, value_in, order_of, order_at, order_behind, order_from, order_in, ordered}
 use Rattle.orders.specs.Pieces.{is_blank, is_line_end, pieces, not_empty, words, lines}
 use Rattle.orders.specs.Texts.{orders_on, orders_in, bad_on, bad_in}
-use Rattle.orders.specs.Written.{digit_for, byte_written, bytes_written, multiplexor_written, written, text_written, Sound, LinesReadBack, TextsReadBack}
-use Rattle.orders.proofs.Digits.{digit_above, byte_read, multiplexor-read}
+use Rattle.orders.specs.Transfers.{name_of, transfer_named, transfer_for}
+use Rattle.orders.specs.Written.{digit_for, byte_written, bytes_written, multiplexor_written, named_before, written, text_written, read_as, Sound, LinesReadBack, TextsReadBack}
+use Rattle.orders.proofs.Digits.{digit_above, digit_below, byte_read, multiplexor-read}
 
 -- a piece that holds no separator
 abbrev Whole : (ℕ → Bool) → List ℕ → Type 0
@@ -35,6 +39,16 @@ dark b h = grind (arith, nat_tests)
 inline : (b : ℕ) → 32 ≤ b → is_line_end b ≡ false
 inline b h = grind (arith, nat_tests)
 
+above : (c : ℕ) → nat_le 48 c ≡ true → 48 ≤ c
+above c test = grind (arith, nat_tests)
+
+-- letters are above the digits, which a test of all shows
+letters : (w : List ℕ) → list_all (nat_le 48) w ≡ true → All (λ c. 48 ≤ c) w
+letters [] test = All-nil (λ c. 48 ≤ c)
+letters (c ∷ w) test =
+    let both = and_parts (nat_le 48 c) (list_all (nat_le 48) w) test in
+    let first : 48 ≤ c = above c both.0 in All-cons (λ c. 48 ≤ c) c w first (letters w both.1)
+
 byte_dark : (b : ℕ) → All (λ c. 48 ≤ c) (byte_written b)
 byte_dark b =
     let Dark : ℕ → Type 0 = λ c. 48 ≤ c in
@@ -53,6 +67,9 @@ lighter w h = All-weaker (λ c. 48 ≤ c) (λ c. 32 ≤ c) (λ c k. omega arith)
 
 kept : (c : ℕ) (w : List ℕ) (ps : List (List ℕ)) → not_empty ((c ∷ w) ∷ ps) ≡ (c ∷ w) ∷ not_empty ps
 kept c w ps = let some : eqb (length (c ∷ w)) 0 ≡ false = ne_eqb _ _ (λ e. omega arith) in ap (λ t. cond (not t) ((c ∷ w) ∷ not_empty ps) (not_empty ps)) some
+
+words_first : (c : ℕ) (w line : List ℕ) → Whole is_blank (c ∷ w) → words ((c ∷ w) ++ 32 ∷ line) ≡ (c ∷ w) ∷ words line
+words_first c w line whole = ap not_empty (pieces_first is_blank 32 refl (c ∷ w) line whole) ∙ kept c w (pieces is_blank line)
 
 words-written : (c : ℕ) (w v : List ℕ) → Whole is_blank (c ∷ w) → words ((c ∷ w) ++ bytes_written v) ≡ (c ∷ w) ∷ map byte_written v
 words-written c w [] whole = ap words (append-nil (c ∷ w)) ∙ ap not_empty (pieces-last is_blank c w whole) ∙ kept c w []
@@ -79,8 +96,26 @@ bytes_light (b ∷ v) =
     let Light : ℕ → Type 0 = λ c. 32 ≤ c in
     All-cons Light 32 (byte_written b ++ bytes_written v) (omega arith) (All-append Light (byte_written b) (bytes_written v) (lighter (byte_written b) (byte_dark b)) (bytes_light v))
 
-light : (m : Multiplexor) (v : List ℕ) → All (λ c. 32 ≤ c) (written m v)
-light m v = All-append (λ c. 32 ≤ c) (multiplexor_written m) (bytes_written v) (lighter (multiplexor_written m) (multiplexor_dark m)) (bytes_light v)
+order_light : (m : Multiplexor) (v : List ℕ) → All (λ c. 32 ≤ c) (multiplexor_written m ++ bytes_written v)
+order_light m v = All-append (λ c. 32 ≤ c) (multiplexor_written m) (bytes_written v) (lighter (multiplexor_written m) (multiplexor_dark m)) (bytes_light v)
+
+-- the names of transfers are letters
+name_dark : (t : Transfer) → All (λ c. 48 ≤ c) (name_of t)
+name_dark Expedited = letters (name_of Expedited) refl
+name_dark Segmented = letters (name_of Segmented) refl
+name_dark Block = letters (name_of Block) refl
+
+name_whole : (t : Transfer) → Whole is_blank (name_of t)
+name_whole t = All-weaker (λ c. 48 ≤ c) (λ c. is_blank c ≡ false) dark (name_of t) (name_dark t)
+
+name_read : (t : Transfer) → transfer_named (name_of t) ≡ Some t
+name_read Expedited = refl
+name_read Segmented = refl
+name_read Block = refl
+
+light : (named : Option Transfer) (m : Multiplexor) (v : List ℕ) → All (λ c. 32 ≤ c) (written named m v)
+light None m v = order_light m v
+light (Some t) m v = All-append (λ c. 32 ≤ c) (name_of t) (32 ∷ (multiplexor_written m ++ bytes_written v)) (lighter (name_of t) (name_dark t)) (All-cons (λ c. 32 ≤ c) 32 (multiplexor_written m ++ bytes_written v) (omega arith) (order_light m v))
 
 no_return : (line : List ℕ) → All (λ c. 32 ≤ c) line → without_return line ≡ line
 no_return [] h = refl
@@ -89,26 +124,57 @@ no_return (c ∷ line) h =
     let other : eqb (get_or (c ∷ line) (length (c ∷ line) - 1) 0) 13 ≡ false = ne_eqb _ _ (λ e. omega arith) in
     cond-false _ _ _ other
 
+-- a multiplexor is no name of a transfer
+multiplexor_unnamed : (m : Multiplexor) → m.index < 2 ^ 16 → transfer_named (multiplexor_written m) ≡ None
+multiplexor_unnamed m h =
+    let low : digit_for (m.index / 256 / 16) ≤ 70 = digit_below (m.index / 256 / 16) (omega arith) in
+    let e : eqb (digit_for (m.index / 256 / 16)) 101 ≡ false = ne_eqb _ _ (λ e. omega arith) in
+    let s : eqb (digit_for (m.index / 256 / 16)) 115 ≡ false = ne_eqb _ _ (λ e. omega arith) in
+    let b : eqb (digit_for (m.index / 256 / 16)) 98 ≡ false = ne_eqb _ _ (λ e. omega arith) in rw (e, s, b)
+
+-- the words of an order without the name of a transfer, and with it
+words_unnamed : (m : Multiplexor) (v : List ℕ) → words (multiplexor_written m ++ bytes_written v) ≡ multiplexor_written m ∷ map byte_written v
+words_unnamed m v = words-written _ _ v (All-weaker (λ c. 48 ≤ c) (λ c. is_blank c ≡ false) dark (multiplexor_written m) (multiplexor_dark m))
+
+words_named : (t : Transfer) (line : List ℕ) → words (named_before (Some t) line) ≡ name_of t ∷ words line
+words_named Expedited line = words_first 101 (codes "xpedited") line (name_whole Expedited)
+words_named Segmented line = words_first 115 (codes "egmented") line (name_whole Segmented)
+words_named Block line = words_first 98 (codes "lock") line (name_whole Block)
+
+-- what the words of an order mean, whose transfer is named or not
+rest_read : (named : Option Transfer) (m : Multiplexor) (v : List ℕ) → Sound named m v → order_behind named (multiplexor_written m ∷ map byte_written v) ≡ ordered (transfer_for named v) m v
+rest_read named m v sound =
+    ap (λ o. order_at named o (map byte_written v)) (multiplexor-read m sound.index sound.subindex)
+    ∙ ap (order_of named m) (value_read v sound.bytes sound.some sound.most)
+    ∙ ap (λ b. cond b (ordered (transfer_for named v) m v) (faulty NotExpedited)) sound.room
+
+words_read : (named : Option Transfer) (m : Multiplexor) (v : List ℕ) → Sound named m v → order_in (words (written named m v)) ≡ ordered (transfer_for named v) m v
+words_read None m v sound = ap order_in (words_unnamed m v) ∙ ap (λ n. order_from n (multiplexor_written m) (map byte_written v)) (multiplexor_unnamed m sound.index) ∙ rest_read None m v sound
+words_read (Some t) m v sound =
+    ap order_in (words_named t (multiplexor_written m ++ bytes_written v) ∙ ap (λ ws. name_of t ∷ ws) (words_unnamed m v))
+    ∙ ap (λ n. order_from n (name_of t) (multiplexor_written m ∷ map byte_written v)) (name_read t)
+    ∙ rest_read (Some t) m v sound
+
+-- an order's line is no comment
+no_comment : (named : Option Transfer) (m : Multiplexor) (v : List ℕ) → is_comment (written named m v) ≡ false
+no_comment None m v = ne_eqb _ _ (λ e. omega (arith, digit_above (m.index / 256 / 16)))
+no_comment (Some Expedited) m v = refl
+no_comment (Some Segmented) m v = refl
+no_comment (Some Block) m v = refl
+
 pub lines_read_back : LinesReadBack
-lines_read_back m v sound =
-    let read : words (written m v) ≡ multiplexor_written m ∷ map byte_written v = words-written _ _ v (All-weaker (λ c. 48 ≤ c) (λ c. is_blank c ≡ false) dark (multiplexor_written m) (multiplexor_dark m)) in
-    let order : is_comment (written m v) ≡ false = ne_eqb _ _ (λ e. omega (arith, digit_above (m.index / 256 / 16))) in
-    cond-false _ _ _ order
-    ∙ ap (λ l. order_in (words l)) (no_return (written m v) (light m v))
-    ∙ ap order_in read
-    ∙ ap (λ o. order_at o (map byte_written v)) (multiplexor-read m sound.index sound.subindex)
-    ∙ ap (order_of m) (value_read v sound.bytes sound.some sound.most)
+lines_read_back named m v sound = cond-false _ _ _ (no_comment named m v) ∙ ap (λ l. order_in (words l)) (no_return (written named m v) (light named m v)) ∙ words_read named m v sound
 
 -- the same of all lines, the first of which has number n
-all_read : (os : List (Multiplexor × List ℕ)) (n : ℕ) → All (λ o. Sound o.0 o.1) os → (orders_in (lines (text_written os)) ≡ os) × (bad_in n (lines (text_written os)) ≡ [])
+all_read : (os : List (Option Transfer × Multiplexor × List ℕ)) (n : ℕ) → All (λ o. Sound o.0 o.1 o.2) os → (orders_in (lines (text_written os)) ≡ map read_as os) × (bad_in n (lines (text_written os)) ≡ [])
 all_read [] n sound = (refl, refl)
 all_read (o ∷ os) n sound =
-    let line = written o.0 o.1 in
-    let parted : lines (text_written (o ∷ os)) ≡ line ∷ lines (text_written os) = pieces_first is_line_end 10 refl line (text_written os) (All-weaker (λ c. 32 ≤ c) (λ c. is_line_end c ≡ false) inline line (light o.0 o.1)) in
-    let Read : (Multiplexor × List ℕ) → Type 0 = λ q. Sound q.0 q.1 in
-    let meant = lines_read_back o.0 o.1 (All-head Read o os sound) in
+    let line = written o.0 o.1 o.2 in
+    let parted : lines (text_written (o ∷ os)) ≡ line ∷ lines (text_written os) = pieces_first is_line_end 10 refl line (text_written os) (All-weaker (λ c. 32 ≤ c) (λ c. is_line_end c ≡ false) inline line (light o.0 o.1 o.2)) in
+    let Read : (Option Transfer × Multiplexor × List ℕ) → Type 0 = λ q. Sound q.0 q.1 q.2 in
+    let meant = lines_read_back o.0 o.1 o.2 (All-head Read o os sound) in
     let rest = all_read os (n + 1) (All-tail Read o os sound) in (
-      ap orders_in parted ∙ ap (λ l. orders_on l ++ orders_in (lines (text_written os))) meant ∙ ap (λ l. o ∷ l) rest.0,
+      ap orders_in parted ∙ ap (λ l. orders_on l ++ orders_in (lines (text_written os))) meant ∙ ap (λ l. read_as o ∷ l) rest.0,
       ap (bad_in n) parted ∙ ap (λ l. bad_on n l ++ bad_in (n + 1) (lines (text_written os))) meant ∙ rest.1,
     )
 

@@ -8,6 +8,9 @@ use Rattle.orders.specs.Written.{digit_for, byte_written, multiplexor_written}
 pub digit_above : (d : ℕ) → 48 ≤ digit_for d
 digit_above d = grind (arith, nat_tests)
 
+pub digit_below : (d : ℕ) → d < 16 → digit_for d ≤ 70
+digit_below d h = grind (arith, nat_tests)
+
 pub digit_read : (d : ℕ) → d < 16 → hex_digit (digit_for d) ≡ Some d
 digit_read d h = grind (arith, nat_tests)
 

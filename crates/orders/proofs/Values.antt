@@ -1,14 +1,13 @@
 -- The value of an order, word by word.
-use Rattle.std.proofs.Common.{◌≡◌, ℕ, ◌+◌, ◌<◌, List, [], ◌∷◌, ◌++◌, length, Some, None, Ok, Err, Result, refl, sym, ap, ◌∙◌, inl, inr, Option, arith}
+use Rattle.std.proofs.Common.{◌≡◌, ℕ, ◌+◌, ◌<◌, List, [], ◌∷◌, ◌++◌, length, Some, None, Ok, Err, Result, refl, sym, ap, ◌∙◌, Option, arith}
 use denote.Ref.{Bor}
-use Rattle.std.proofs.lemmas.Bool.{eq-eqb, ne_eqb, false≢true}
+use Rattle.std.proofs.lemmas.Bool.{eq-eqb, ne_eqb}
 use Rattle.std.proofs.lemmas.Iterator.{YieldsList}
-use Rattle.wire.specs.declared.multiplexor.Multiplexor.{Multiplexor}
 use Rattle.orders.specs.declared.fault.Fault.{Fault}
 use Rattle.orders.specs.declared.fault.Fault.TheVariants.{NotByte, TooManyBytes}
 use Rattle.orders.specs.Hex.{byte_in}
 use Rattle.orders.proofs.Comes.{comes_next, comes_none}
-use Rattle.orders.specs.Lines.{longest, bytes_in, value_in, with_byte, and_then, order_of, Reads, ReadsValue}
+use Rattle.orders.specs.Lines.{longest, bytes_in, value_in, with_byte, and_then}
 
 -- the value of which some bytes are read, and words are left
 abbrev pub value_after : List ℕ → List (List ℕ) → Result (List ℕ) Fault
@@ -60,10 +59,3 @@ module _ {S : Type 0} {steps : S → Option (Bor (List ℕ)) → S → Type 0} {
 
   pub left_none : steps s None t → v ≡ value_after bytes []
   left_none step = sym left.write ∙ ap (value_after bytes) (comes_none left.words left.come step)
-
--- an order's fault, or its want of memory, is its value's
-pub order_failed : (m : Multiplexor) (f : Fault) (v : Result (List ℕ) Fault) → ReadsValue (Err f) v → Reads (Err f) (order_of m v)
-order_failed m f (Ok bytes) (inl e) = inl (ap (order_of m) e)
-order_failed m f (Ok bytes) (inr o) = inr (o.0, refl)
-order_failed m f (Err g) (inl e) = inl (ap (order_of m) e)
-order_failed m f (Err g) (inr o) = absurd (false≢true o.1)

@@ -3,4 +3,5 @@ pub mod Lines
 pub mod Pieces
 pub mod Reasons
 pub mod Texts
+pub mod Transfers
 pub mod Written

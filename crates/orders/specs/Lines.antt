@@ -1,22 +1,23 @@
 -- What a line of orders means: nothing, an order, or the first thing wrong with it.
--- A line is read from left to right: a comment or a blank line is passed over; then comes the multiplexor, then one byte after another.
-use Rattle.std.specs.Prelude.{◌≡◌, ℕ, ◌+◌, ◌-◌, Bool, true, false, cond, ◌⊎◌, List, [], ◌∷◌, ◌++◌, length, take, is_ok, Some, None, Ok, Err, vec_items, Option, Result, Vec, ◌==◌, slice_index}
-use Rattle.std.specs.declared.alloc.Global.{Global}
+-- A line is read from left to right: a comment or a blank line is passed over; then comes a transfer, or none, then the multiplexor, then one byte after another.
+use Rattle.std.specs.Prelude.{◌≡◌, ℕ, ◌+◌, ◌-◌, Bool, true, false, cond, ◌⊎◌, List, [], ◌∷◌, ◌++◌, length, take, Some, None, Ok, Err, vec_items, Option, Result, ◌==◌, slice_index}
 use Rattle.wire.specs.declared.multiplexor.Multiplexor.{Multiplexor}
 use Rattle.orders.specs.declared.fault.Fault.{Fault}
-use Rattle.orders.specs.declared.fault.Fault.TheVariants.{NotMultiplexor, NoBytes, NotByte, TooManyBytes, OutOfMemory}
+use Rattle.orders.specs.declared.fault.Fault.TheVariants.{NotMultiplexor, NoBytes, NotByte, TooManyBytes, NotExpedited, OutOfMemory}
 use Rattle.orders.specs.declared.order.Order.{Order}
+use Rattle.orders.specs.declared.transfer.Transfer.{Transfer}
 use Rattle.orders.specs.Hex.{byte_in, multiplexor_in}
 use Rattle.orders.specs.Pieces.{words}
+use Rattle.orders.specs.Transfers.{transfer_named, transfer_for, takes}
 
 pub data Meaning : Type 0 where
   passed_over : Meaning
-  ordered : Multiplexor → List ℕ → Meaning
+  ordered : Transfer → Multiplexor → List ℕ → Meaning
   faulty : Fault → Meaning
 
 -- the most bytes that an order may have
 abbrev pub longest : ℕ
-longest = 4
+longest = 1024
 
 -- a comment starts with # (35)
 abbrev pub is_comment : List ℕ → Bool
@@ -44,33 +45,46 @@ abbrev pub value_in : List (List ℕ) → Result (List ℕ) Fault
 value_in [] = Err NoBytes
 value_in (w ∷ ws) = bytes_in [] (w ∷ ws)
 
-abbrev pub order_of : Multiplexor → Result (List ℕ) Fault → Meaning
-order_of m (Ok v) = ordered m v
-order_of m (Err f) = faulty f
+-- a value in a transfer that has room for it
+abbrev pub order_in_transfer : Transfer → Multiplexor → List ℕ → Meaning
+order_in_transfer t m v = cond (takes t (length v)) (ordered t m v) (faulty NotExpedited)
 
-abbrev pub order_at : Option Multiplexor → List (List ℕ) → Meaning
-order_at None ws = faulty NotMultiplexor
-order_at (Some m) ws = order_of m (value_in ws)
+abbrev pub order_of : Option Transfer → Multiplexor → Result (List ℕ) Fault → Meaning
+order_of named m (Ok v) = order_in_transfer (transfer_for named v) m v
+order_of named m (Err f) = faulty f
+
+abbrev pub order_at : Option Transfer → Option Multiplexor → List (List ℕ) → Meaning
+order_at named None ws = faulty NotMultiplexor
+order_at named (Some m) ws = order_of named m (value_in ws)
+
+abbrev pub order_behind : Option Transfer → List (List ℕ) → Meaning
+order_behind named [] = faulty NotMultiplexor
+order_behind named (w ∷ ws) = order_at named (multiplexor_in w) ws
+
+-- the first word is a transfer, or the multiplexor
+abbrev pub order_from : Option Transfer → List ℕ → List (List ℕ) → Meaning
+order_from None w ws = order_behind None (w ∷ ws)
+order_from (Some t) w ws = order_behind (Some t) ws
 
 abbrev pub order_in : List (List ℕ) → Meaning
 order_in [] = passed_over
-order_in (w ∷ ws) = order_at (multiplexor_in w) ws
+order_in (w ∷ ws) = order_from (transfer_named w) w ws
 
 abbrev pub line_meaning : List ℕ → Meaning
 line_meaning line = cond (is_comment line) passed_over (order_in (words (without_return line)))
 
 abbrev pub is_order : Meaning → Bool
 is_order passed_over = false
-is_order (ordered m v) = true
+is_order (ordered t m v) = true
 is_order (faulty f) = false
 
--- what was read of a line is what it means; only for an order can memory fail
+-- what was read of an order is what it means; only for an order can memory fail
+abbrev pub ReadsOrder : Result Order Fault → Meaning → Type 0
+ReadsOrder (Ok o) l = l ≡ ordered o.transfer o.multiplexor (vec_items o.value)
+ReadsOrder (Err f) l = (l ≡ faulty f) ⊎ ((f ≡ OutOfMemory) × (is_order l ≡ true))
+
+-- the same of a line
 abbrev pub Reads : Result (Option Order) Fault → Meaning → Type 0
 Reads (Ok None) l = l ≡ passed_over
-Reads (Ok (Some o)) l = l ≡ ordered o.multiplexor (vec_items o.value)
-Reads (Err f) l = (l ≡ faulty f) ⊎ ((f ≡ OutOfMemory) × (is_order l ≡ true))
-
--- the same of an order's value
-abbrev pub ReadsValue : Result (Vec ℕ Global) Fault → Result (List ℕ) Fault → Type 0
-ReadsValue (Ok x) v = v ≡ Ok (vec_items x)
-ReadsValue (Err f) v = (v ≡ Err f) ⊎ ((f ≡ OutOfMemory) × (is_ok v ≡ true))
+Reads (Ok (Some o)) l = ReadsOrder (Ok o) l
+Reads (Err f) l = ReadsOrder (Err f) l

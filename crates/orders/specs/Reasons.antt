@@ -2,14 +2,16 @@
 use Rattle.std.specs.Prelude.{ℕ, List, ◌++◌, codes, decimal}
 use Rattle.orders.specs.declared.bad_line.BadLine.{BadLine}
 use Rattle.orders.specs.declared.fault.Fault.{Fault}
-use Rattle.orders.specs.declared.fault.Fault.TheVariants.{NotMultiplexor, NoBytes, NotByte, TooManyBytes, OutOfMemory}
+use Rattle.orders.specs.declared.fault.Fault.TheVariants.{NotMultiplexor, NoBytes, NotByte, TooManyBytes, NotExpedited, OutOfMemory}
 use Rattle.orders.specs.Lines.{longest}
+use Rattle.orders.specs.Transfers.{most_expedited}
 
 abbrev pub reason : Fault → List ℕ
-reason NotMultiplexor = codes "the first word is not IIII:SS, an index of four and a subindex of two hex digits"
+reason NotMultiplexor = codes "no IIII:SS, an index of four and a subindex of two hex digits, at the start or behind expedited, segmented or block"
 reason NoBytes = codes "no bytes follow the index and subindex"
 reason (NotByte place) = codes "byte " ++ (decimal place ++ codes " is not two hex digits")
 reason TooManyBytes = codes "more than " ++ (decimal longest ++ codes " bytes follow the index and subindex")
+reason NotExpedited = codes "more than " ++ (decimal most_expedited ++ codes " bytes do not go expedited")
 reason OutOfMemory = codes "out of memory"
 
 abbrev pub report : BadLine → List ℕ

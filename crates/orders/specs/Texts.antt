@@ -5,26 +5,27 @@ use Rattle.wire.specs.declared.multiplexor.Multiplexor.{Multiplexor}
 use Rattle.orders.specs.declared.bad_line.BadLine.{BadLine}
 use Rattle.orders.specs.declared.order.Order.{Order}
 use Rattle.orders.specs.declared.reading.Reading.{Reading}
+use Rattle.orders.specs.declared.transfer.Transfer.{Transfer}
 use Rattle.orders.specs.Lines.{Meaning, passed_over, ordered, faulty, line_meaning}
 
--- an order as the multiplexor and the bytes that it holds
-abbrev pub content : Order → Multiplexor × List ℕ
-content o = (o.multiplexor, vec_items o.value)
+-- an order as the transfer, the multiplexor and the bytes that it holds
+abbrev pub content : Order → Transfer × Multiplexor × List ℕ
+content o = (o.transfer, o.multiplexor, vec_items o.value)
 
 -- the order of a line, if it has one
-abbrev pub orders_on : Meaning → List (Multiplexor × List ℕ)
+abbrev pub orders_on : Meaning → List (Transfer × Multiplexor × List ℕ)
 orders_on passed_over = []
-orders_on (ordered m v) = (m, v) ∷ []
+orders_on (ordered t m v) = (t, m, v) ∷ []
 orders_on (faulty f) = []
 
 -- the line's number and its fault, if it has one
 abbrev pub bad_on : ℕ → Meaning → List BadLine
 bad_on n passed_over = []
-bad_on n (ordered m v) = []
+bad_on n (ordered t m v) = []
 bad_on n (faulty f) = record { line = n; fault = f } ∷ []
 
 -- the orders of lines, in the lines' order
-abbrev pub orders_in : List (List ℕ) → List (Multiplexor × List ℕ)
+abbrev pub orders_in : List (List ℕ) → List (Transfer × Multiplexor × List ℕ)
 orders_in [] = []
 orders_in (l ∷ ls) = orders_on (line_meaning l) ++ orders_in ls
 

@@ -1,17 +1,19 @@
-//! Why a line is no order. A fault is the first that a reader meets from left to right: the first word is held to be a multiplexor,
-//! then each word after it to be a byte, and then to be no more than an order may have.
+//! Why a line is no order. A fault is the first that a reader meets from left to right: the first word, or the one behind a transfer,
+//! is held to be a multiplexor, then each word after it to be a byte, and then to be no more than an order may have; at the line's end
+//! the bytes are held to be no more than their transfer has room for.
 ghost use Rattle.std.specs.Prelude.{◌≡◌, Some};
 ghost use Rattle.orders.specs.Reasons.{reason};
 ghost use Rattle.orders.specs.declared.fault.Fault.TheVariants.{OutOfMemory};
 
 use crate::order::LONGEST;
+use crate::transfer::MOST_EXPEDITED;
 use std::alloc::AllocError;
 use std::fmt;
 
 /// The first thing wrong with a line, or the want of memory for an order with nothing wrong.
 #[derive(Clone, Copy, PartialEq, Eq, Debug)]
 pub enum Fault {
-    /// The first word is no multiplexor.
+    /// No multiplexor stands where it has to.
     NotMultiplexor,
     /// The line ends after the multiplexor.
     NoBytes,
@@ -19,6 +21,8 @@ pub enum Fault {
     NotByte(usize),
     /// One byte more than an order may have.
     TooManyBytes,
+    /// An order that is to go expedited has more bytes than go so.
+    NotExpedited,
     /// There was no memory for the value.
     OutOfMemory,
 }
@@ -31,13 +35,17 @@ impl fmt::Display for Fault {
         match self {
             Fault::NotMultiplexor => write!(
                 f,
-                "the first word is not IIII:SS, an index of four and a subindex of two hex digits"
+                "no IIII:SS, an index of four and a subindex of two hex digits, at the start or behind expedited, segmented or block"
             ),
             Fault::NoBytes => write!(f, "no bytes follow the index and subindex"),
             Fault::NotByte(place) => write!(f, "byte {place} is not two hex digits"),
             Fault::TooManyBytes => write!(
                 f,
                 "more than {LONGEST} bytes follow the index and subindex"
+            ),
+            Fault::NotExpedited => write!(
+                f,
+                "more than {MOST_EXPEDITED} bytes do not go expedited"
             ),
             Fault::OutOfMemory => write!(f, "out of memory"),
         }

@@ -21,7 +21,7 @@ fn byte(high: u8, low: u8) -> Option<u8>
 }
 
 /// The byte that a word writes.
-pub(crate) fn read_byte(word: &[u8]) -> Option<u8>
+pub fn read_byte(word: &[u8]) -> Option<u8>
     ensures { result ≡ byte_in word.now }
 {
     match word {
@@ -31,7 +31,7 @@ pub(crate) fn read_byte(word: &[u8]) -> Option<u8>
 }
 
 /// The multiplexor that a word writes.
-pub(crate) fn read_multiplexor(word: &[u8]) -> Option<Multiplexor>
+pub fn read_multiplexor(word: &[u8]) -> Option<Multiplexor>
     ensures { result ≡ multiplexor_in word.now }
 {
     let [a, b, c, d, b':', e, f] = word else {

@@ -1,4 +1,4 @@
-//! The orders of a load as text: one order a line, a multiplexor and the bytes to write there.
+//! The orders of a load as text: one order a line, a multiplexor and the bytes to write there, and how to write them.
 #![tactic(auto)]
 
 mod bad_line;
@@ -8,10 +8,13 @@ mod line;
 mod order;
 mod reading;
 mod round_trip;
+mod transfer;
 
 pub use bad_line::BadLine;
 pub use fault::Fault;
+pub use hex::{read_byte, read_multiplexor};
 pub use line::read_line;
 pub use order::{LONGEST, Order};
 pub use reading::{Reading, read_orders};
 pub use round_trip::orders_read_back;
+pub use transfer::Transfer;

@@ -1,14 +1,18 @@
 //! Orders read from lines.
-ghost use Rattle.std.specs.Prelude.{◌≡◌, ℕ, List};
+ghost use Rattle.std.specs.Prelude.{◌≡◌, ℕ, List, MatchResult};
 ghost use Rattle.std.specs.Iterator.{IsFinite, AlwaysYields};
-ghost use Rattle.orders.specs.Lines.{is_comment, without_return, value_in, order_in, line_meaning, ReadsValue, Reads};
+ghost use Rattle.orders.specs.Hex.{multiplexor_in};
+ghost use Rattle.orders.specs.Lines.{is_comment, without_return, value_in, order_in_transfer, order_at, order_in, line_meaning, ReadsOrder, Reads};
 ghost use Rattle.orders.specs.Pieces.{words};
+ghost use Rattle.orders.specs.Transfers.{transfer_for};
 
 use crate::fault::Fault;
 use crate::hex::{read_byte, read_multiplexor};
 use crate::order::{LONGEST, Order};
+use crate::transfer::Transfer;
 use arrayvec::ArrayVec;
 use std::alloc::Global;
+use wire::Multiplexor;
 
 /// Whether a line is a comment.
 fn is_comment(line: &[u8]) -> bool
@@ -24,24 +28,60 @@ fn without_return(line: &[u8]) -> &[u8]
     line.strip_suffix(b"\r").unwrap_or(line)
 }
 
-/// The value that words write.
-fn read_value<'a, W: Iterator<Item = &'a [u8]> + Drop>(
-    heap: Global,
+/// The bytes that words write.
+fn read_bytes<'a, W: Iterator<Item = &'a [u8]> + Drop>(
     words: W,
-) -> Result<Vec<u8>, Fault>
+) -> Result<ArrayVec<u8, LONGEST>, Fault>
     requires can { W.can_next words }
     requires ends { IsFinite (W.remaining words) }
-    ensures { (ws : List (List ℕ)) → AlwaysYields W.next_gives (λ w. w.now) words ws → ReadsValue result (value_in ws) }
+    ensures { (ws : List (List ℕ)) → AlwaysYields W.next_gives (λ w. w.now) words ws → MatchResult result (λ bytes. value_in ws ≡ Ok bytes.items) (λ f. value_in ws ≡ Err f) }
 {
-    let mut value = ArrayVec::<u8, LONGEST>::new();
+    let mut bytes = ArrayVec::<u8, LONGEST>::new();
     for word in words {
-        let byte = read_byte(word).ok_or(Fault::NotByte(value.len() + 1))?;
-        value.try_push(byte).map_err(|_| Fault::TooManyBytes)?;
+        let byte = read_byte(word).ok_or(Fault::NotByte(bytes.len() + 1))?;
+        bytes.try_push(byte).map_err(|_| Fault::TooManyBytes)?;
     }
-    if value.is_empty() {
+    if bytes.is_empty() {
         return Err(Fault::NoBytes);
     }
-    Ok(Vec::from_slice(heap, value.as_slice())?)
+    Ok(bytes)
+}
+
+/// The order of a value, unless the transfer has no room for it.
+fn order_of(
+    heap: Global,
+    named: Option<Transfer>,
+    multiplexor: Multiplexor,
+    bytes: &[u8],
+) -> Result<Order, Fault>
+    ensures { ReadsOrder result (order_in_transfer (transfer_for named bytes.now) multiplexor bytes.now) }
+{
+    let transfer = named.unwrap_or(Transfer::fitting(bytes.len()));
+    if !transfer.takes(bytes.len()) {
+        return Err(Fault::NotExpedited);
+    }
+    let value = Vec::from_slice(heap, bytes)?;
+    Ok(Order {
+        transfer,
+        multiplexor,
+        value,
+    })
+}
+
+/// The order that a word and those behind it write, whose transfer is named or not.
+fn read_rest<'a, W: Iterator<Item = &'a [u8]> + Drop>(
+    heap: Global,
+    named: Option<Transfer>,
+    word: &[u8],
+    rest: W,
+) -> Result<Order, Fault>
+    requires can { W.can_next rest }
+    requires ends { IsFinite (W.remaining rest) }
+    ensures { (ws : List (List ℕ)) → AlwaysYields W.next_gives (λ w. w.now) rest ws → ReadsOrder result (order_at named (multiplexor_in word.now) ws) }
+{
+    let multiplexor = read_multiplexor(word).ok_or(Fault::NotMultiplexor)?;
+    let bytes = read_bytes(rest)?;
+    order_of(heap, named, multiplexor, bytes.as_slice())
 }
 
 /// The order that the words of a line write, or none where there are no words.
@@ -54,9 +94,12 @@ fn read_order(heap: Global, line: &[u8]) -> Result<Option<Order>, Fault>
     let Some(first) = words.next() else {
         return Ok(None);
     };
-    let multiplexor = read_multiplexor(first).ok_or(Fault::NotMultiplexor)?;
-    let value = read_value(heap, words)?;
-    Ok(Some(Order { multiplexor, value }))
+    let named = Transfer::named(first);
+    if named.is_none() {
+        return Ok(Some(read_rest(heap, None, first, words)?));
+    }
+    let second = words.next().ok_or(Fault::NotMultiplexor)?;
+    Ok(Some(read_rest(heap, named, second, words)?))
 }
 
 /// The order on a line, or none on a line to pass over.

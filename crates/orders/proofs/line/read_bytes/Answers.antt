@@ -3,7 +3,7 @@ use Rattle.std.proofs.lemmas.Grind.{common_steps}
 use Rattle.orders.specs.Hex.{byte_in}
 use Rattle.orders.specs.Lines.{longest}
 use Rattle.orders.proofs.Values.{left_bad, left_full, left_more, left_none, value_all}
-use Rattle.orders.proofs.line.read_value.Goals as goal
+use Rattle.orders.proofs.line.read_bytes.Goals as goal
 
 pub returns-in_err-byte : goal.returns-in_err-byte
 returns-in_err-byte g c = λ ws all.
@@ -14,14 +14,14 @@ returns-in_err-byte g c = λ ws all.
 pub returns-in_err-map_err : goal.returns-in_err-map_err
 returns-in_err-map_err g c = λ ws all.
     let good : byte_in c.in-Some.word.now ≡ Some c.in_ok-byte.byte = grind (arith, common_steps) in
-    let full : length c.loop-word.value.items ≡ longest = grind (arith, common_steps) in
+    let full : length c.loop-word.bytes.items ≡ longest = grind (arith, common_steps) in
     let meant = left_full (c.loop-word.invariant.2 ws (record { runs = all })) c.in-Some.ensures.steps good full in
     grind (arith, common_steps)
 
 pub loop-word-preserved : goal.loop-word-preserved
 loop-word-preserved g c =
     let good : byte_in c.in-Some.word.now ≡ Some c.in_ok-byte.byte = grind (arith, common_steps) in
-    let room : length c.loop-word.value.items < longest = grind (arith, common_steps) in (
+    let room : length c.loop-word.bytes.items < longest = grind (arith, common_steps) in (
       search rules,
       search rules,
       λ ws all.
@@ -29,14 +29,8 @@ loop-word-preserved g c =
           grind (arith, common_steps),
     )
 
-pub returns-in_err-from_slice : goal.returns-in_err-from_slice
-returns-in_err-from_slice g c = λ ws all.
-    let some : 0 < length c.loop-word.value.items = grind (arith, common_steps) in
-    let meant = left_none (c.loop-word.invariant.2 ws (record { runs = all })) c.in-None.ensures.steps ∙ value_all _ some in
-    grind (arith, common_steps)
-
 pub returns : goal.returns
 returns g c = λ ws all.
-    let some : 0 < length c.loop-word.value.items = grind (arith, common_steps) in
+    let some : 0 < length c.loop-word.bytes.items = grind (arith, common_steps) in
     let meant = left_none (c.loop-word.invariant.2 ws (record { runs = all })) c.in-None.ensures.steps ∙ value_all _ some in
     grind (arith, common_steps)
