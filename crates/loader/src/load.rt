@@ -1,56 +1,67 @@
-//! Orders carried out at the sample node, one after the other.
-use crate::entries::print_entries;
-use crate::hex_bytes::HexBytes;
-use anyhow::Context;
-use dictionary::sample;
-use exchange::{Exchange, WriteFailure, expedited_write};
-use node::Node;
+//! A load: orders to a new node, over a new line.
+use crate::device::Device;
+use crate::line_kind::LineKind;
+use crate::loading::Loading;
+use crate::options::Options;
+use crate::recorded::{RecordedMailbox, RecordedMemory};
+use crate::sheet::print_sheet;
+use crate::trace::Trace;
+use dictionary::{Writable, sample};
+use drive::Drive;
+use line::{DropLayer, MailboxLine, MemoryLine, Recording};
 use orders::Order;
-use wire::{ExpeditedData, NodeNumber};
 
-/// The sample node's number.
-const SAMPLE_NODE: u8 = 5;
-
-/// Loads all orders into a new sample node, and prints each exchange, the entries and the count.
-pub fn load_all(rt: &HostRuntime, orders: &[Order]) -> anyhow::Result<()> {
-    let mut table = sample();
-    let mut node = Node::new(NodeNumber::nearest(SAMPLE_NODE));
-    // Counted beside the printing: a fold over both would be no plainer.
-    let mut accepted: usize = 0;
-    for (place, order) in (1usize..).zip(orders) {
-        let multiplexor = order.multiplexor;
-        let value = HexBytes(&order.value);
-        println!(rt; "Order {place}: {multiplexor} {value}")?;
-        let data = ExpeditedData::new(&order.value).context(
-            "an order has no bytes, or more than a start carries",
-        )?;
-        let exchange = expedited_write(&mut node, &mut table, multiplexor, data);
-        print_exchange(rt, exchange)?;
-        if exchange.outcome.is_ok() {
-            accepted = accepted.saturating_add(1);
-        }
-    }
-    println!(rt; "Entries of node {SAMPLE_NODE}")?;
-    print_entries(rt, &table)?;
-    let refused = orders.len().saturating_sub(accepted);
-    println!(rt; "\nValues set: {accepted}, orders refused: {refused}")?;
-    Ok(())
+/// What is loaded, and how.
+pub struct Load<'a> {
+    pub options: Options<'a>,
+    pub orders: &'a [Order],
+    pub trace: Option<Trace>,
 }
 
-/// Prints the two frames of an exchange and what the node said.
-fn print_exchange(rt: &HostRuntime, exchange: Exchange) -> anyhow::Result<()> {
-    let request = exchange.request;
-    println!(rt; "  request   {request}")?;
-    if let Some(reply) = exchange.reply {
-        println!(rt; "  answer    {reply}")?;
-    }
-    match exchange.outcome {
-        Ok(()) => println!(rt; "  accepted\n")?,
-        Err(WriteFailure::Refused(code)) => {
-            let words = code.words();
-            println!(rt; "  refused   {code} {words}\n")?
+impl Load<'_> {
+    /// Carries out the load, and prints its sheet.
+    pub fn run(self, rt: &HostRuntime) -> anyhow::Result<()> {
+        match self.options.device {
+            Device::Sample => self.with_dictionary(rt, sample()),
+            Device::Drive => self.with_dictionary(rt, Drive::new()),
         }
-        Err(WriteFailure::NotAwaited) => println!(rt; "  not understood\n")?,
     }
-    Ok(())
+
+    /// The same over a dictionary.
+    fn with_dictionary<D: Writable + Drop>(
+        self,
+        rt: &HostRuntime,
+        dictionary: D,
+    ) -> anyhow::Result<()> {
+        let pattern = self.options.pattern;
+        match self.options.line {
+            LineKind::Memory => {
+                let line = DropLayer::new(MemoryLine::new(), pattern);
+                self.with_line(rt, RecordedMemory::new(line), dictionary)
+            }
+            LineKind::Mailbox => {
+                let line = DropLayer::new(MailboxLine::new(), pattern);
+                self.with_line(rt, RecordedMailbox::new(line), dictionary)
+            }
+        }
+    }
+
+    /// The same over a line and a dictionary.
+    fn with_line<L: Recording + Drop, D: Writable + Drop>(
+        self,
+        rt: &HostRuntime,
+        line: L,
+        dictionary: D,
+    ) -> anyhow::Result<()> {
+        let Load {
+            options,
+            orders,
+            trace,
+        } = self;
+        let mut loading = Loading::new(options.node, options.block_size, line, dictionary, trace);
+        let printed = print_sheet(rt, &options, &mut loading, orders);
+        let ended = loading.end();
+        printed?;
+        ended
+    }
 }
