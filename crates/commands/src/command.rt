@@ -1,0 +1,35 @@
+//! What a line of a script can ask for.
+use crate::bench_order::BenchOrder;
+use master::Method;
+use wire::Multiplexor;
+
+/// A command.
+#[derive(Drop)]
+pub enum Command {
+    /// Make the bench.
+    Bench(BenchOrder),
+    /// Make a call of the bench, or ask it something.
+    Call(Call),
+}
+
+/// A call, so many times where it can be repeated.
+#[derive(Drop)]
+pub enum Call {
+    Read(Multiplexor),
+    Write(WriteOrder),
+    Serve(u64),
+    Hear(u64),
+    Tick(u64),
+    /// The ticket of a number, or the one that is held, with a buffer of so many bytes.
+    Settle { ticket: Option<u16>, room: u16 },
+    Entries,
+    Commits,
+}
+
+/// A value to write, how and where.
+#[derive(Drop)]
+pub struct WriteOrder {
+    pub method: Method,
+    pub multiplexor: Multiplexor,
+    pub value: Vec<u8>,
+}

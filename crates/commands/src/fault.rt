@@ -1,0 +1,22 @@
+//! Why a line gave no command.
+use std::alloc::{AllocError, AllocFailed};
+
+/// The line is none, or there was no memory to read it.
+#[derive(Clone, Copy, Debug)]
+pub enum Fault {
+    NotUnderstood,
+    OutOfMemory,
+}
+
+// By hand: these errors become one of the variants, and no variant holds one.
+impl From<AllocError> for Fault {
+    fn from(_e: AllocError) -> Fault {
+        Fault::OutOfMemory
+    }
+}
+
+impl<T: Drop> From<AllocFailed<T>> for Fault {
+    fn from(_e: AllocFailed<T>) -> Fault {
+        Fault::OutOfMemory
+    }
+}
