@@ -7,7 +7,8 @@ use Rattle.report.specs.declared.report.Report.{Report}
 use Rattle.report.specs.declared.report.Report.TheVariants.{Written, Read, Unwritten, Undecided, Unread}
 use Rattle.law.specs.Runs as law
 use Rattle.law.specs.States.{State}
-use Rattle.law.specs.Calls.{settle_answer, settle_buffer, settle_step}
+use Rattle.law.specs.Calls.{settle_answer, settle_buffer, settle_frames, settle_step}
+use Rattle.law.specs.Law.{KeepsLaw}
 use Rattle.law.specs.Runs.{Event}
 use Rattle.bench.specs.declared.call.Call.{Call}
 use Rattle.bench.specs.declared.call.Call.TheVariants.{BeginRead, BeginWrite, Serve, Hear, Tick, Settle}
@@ -49,8 +50,8 @@ abbrev pub held_after : Result ℕ BeginRefusal → Option ℕ → Option ℕ
 held_after (Ok k) held = Some k
 held_after (Err e) held = held
 
--- the ticket that is out is settled, if one is: the report, the buffer and the bench are then as settling leaves them
+-- the ticket that is out is settled, if one is: the report, the buffer and the bench are then as settling leaves them, and the law holds with it
 abbrev pub Finishes : Option ℕ → Option Report → List ℕ → List ℕ → State → State → Type 0
 Finishes None r buffer after s t = (r ≡ None) × (after ≡ buffer) × (t ≡ s)
 Finishes (Some k) None buffer after s t = ⊥
-Finishes (Some k) (Some r) buffer after s t = (Ok r ≡ settle_answer k buffer s) × (after ≡ settle_buffer k buffer s) × ((ls : List Bool) × (t ≡ settle_step k buffer ls s))
+Finishes (Some k) (Some r) buffer after s t = (Ok r ≡ settle_answer k buffer s) × (after ≡ settle_buffer k buffer s) × ((ls : List Bool) × (t ≡ settle_step k buffer ls s)) × KeepsLaw (law.Settle k buffer (Ok r) after) (settle_frames k buffer s) s t

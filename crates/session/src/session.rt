@@ -1,9 +1,11 @@
 //! A bench, and the ticket of it that is held.
-ghost use Rattle.std.specs.Prelude.{◌≡◌, ◌≤◌, Bool, List, None, length};
+ghost use Rattle.std.specs.Prelude.{◌≡◌, ◌≤◌, Bool, List, [], None, length};
 ghost use Rattle.master.specs.States.{uncleared};
 ghost use Rattle.master.specs.Calls.{Read, Write};
 ghost use Rattle.law.specs.States.{fresh};
-ghost use Rattle.law.specs.Calls.{begin_answer, begin_step, serve_answer, serve_step, hear_answer, hear_step, tick_answer, tick_step};
+ghost use Rattle.law.specs.Calls.{begin_answer, begin_frames, begin_step, serve_answer, serve_step, hear_answer, hear_frames, hear_step, tick_answer, tick_frames, tick_step};
+ghost use Rattle.law.specs.Runs.{Begin, Serve, Hear, Tick};
+ghost use Rattle.law.specs.Law.{KeepsLaw};
 ghost use Rattle.bench.specs.Numbers.{nearest_number, nearest_size};
 ghost use Rattle.bench.specs.States.{state_of};
 ghost use Rattle.session.specs.Tickets.{master_of, Settles};
@@ -50,6 +52,7 @@ impl<L: Line, D: Writable> Session<L, D> {
     pub fn begin_read(&mut self, multiplexor: Multiplexor) -> Result<u16, BeginRefusal>
         ensures answer { result ≡ begin_answer multiplexor Read (state_of L.Line.shows D.Readable.meaning self.old.bench) }
         ensures after { (ls : List Bool) × ((state_of L.Line.shows D.Readable.meaning self.new.bench) ≡ begin_step multiplexor Read ls (state_of L.Line.shows D.Readable.meaning self.old.bench)) }
+        ensures law { KeepsLaw (Begin multiplexor Read result) (begin_frames multiplexor Read (state_of L.Line.shows D.Readable.meaning self.old.bench)) (state_of L.Line.shows D.Readable.meaning self.old.bench) (state_of L.Line.shows D.Readable.meaning self.new.bench) }
     {
         let ticket = self.bench.begin_read(multiplexor)?;
         Ok(hold(&mut self.held, ticket))
@@ -64,6 +67,7 @@ impl<L: Line, D: Writable> Session<L, D> {
     ) -> Result<u16, BeginRefusal>
         ensures answer { result ≡ begin_answer multiplexor (Write method value.now) (state_of L.Line.shows D.Readable.meaning self.old.bench) }
         ensures after { (ls : List Bool) × ((state_of L.Line.shows D.Readable.meaning self.new.bench) ≡ begin_step multiplexor (Write method value.now) ls (state_of L.Line.shows D.Readable.meaning self.old.bench)) }
+        ensures law { KeepsLaw (Begin multiplexor (Write method value.now) result) (begin_frames multiplexor (Write method value.now) (state_of L.Line.shows D.Readable.meaning self.old.bench)) (state_of L.Line.shows D.Readable.meaning self.old.bench) (state_of L.Line.shows D.Readable.meaning self.new.bench) }
     {
         let ticket = self.bench.begin_write(method, multiplexor, value)?;
         Ok(hold(&mut self.held, ticket))
@@ -73,6 +77,7 @@ impl<L: Line, D: Writable> Session<L, D> {
     pub fn serve(&mut self) -> Served
         ensures answer { result ≡ serve_answer (state_of L.Line.shows D.Readable.meaning self.old.bench) }
         ensures after { (lost : Bool) × ((state_of L.Line.shows D.Readable.meaning self.new.bench) ≡ serve_step lost (state_of L.Line.shows D.Readable.meaning self.old.bench)) }
+        ensures law { KeepsLaw (Serve result) [] (state_of L.Line.shows D.Readable.meaning self.old.bench) (state_of L.Line.shows D.Readable.meaning self.new.bench) }
     {
         self.bench.serve()
     }
@@ -81,6 +86,7 @@ impl<L: Line, D: Writable> Session<L, D> {
     pub fn hear(&mut self) -> Heard
         ensures answer { result ≡ hear_answer (state_of L.Line.shows D.Readable.meaning self.old.bench) }
         ensures after { (ls : List Bool) × ((state_of L.Line.shows D.Readable.meaning self.new.bench) ≡ hear_step ls (state_of L.Line.shows D.Readable.meaning self.old.bench)) }
+        ensures law { KeepsLaw (Hear result) (hear_frames (state_of L.Line.shows D.Readable.meaning self.old.bench)) (state_of L.Line.shows D.Readable.meaning self.old.bench) (state_of L.Line.shows D.Readable.meaning self.new.bench) }
     {
         self.bench.hear()
     }
@@ -89,6 +95,7 @@ impl<L: Line, D: Writable> Session<L, D> {
     pub fn tick(&mut self) -> bool
         ensures answer { result ≡ tick_answer (state_of L.Line.shows D.Readable.meaning self.old.bench) }
         ensures after { (ls : List Bool) × (lost : Bool) × ((state_of L.Line.shows D.Readable.meaning self.new.bench) ≡ tick_step ls lost (state_of L.Line.shows D.Readable.meaning self.old.bench)) }
+        ensures law { KeepsLaw (Tick result) (tick_frames (state_of L.Line.shows D.Readable.meaning self.old.bench)) (state_of L.Line.shows D.Readable.meaning self.old.bench) (state_of L.Line.shows D.Readable.meaning self.new.bench) }
     {
         self.bench.tick()
     }
