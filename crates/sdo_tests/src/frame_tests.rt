@@ -84,6 +84,39 @@ fn aborts_carry_listed_and_other_codes(rt: HostRuntime) {
     assert_eq!(rt; AbortCode::Other(1).words(), "code not listed");
 }
 
+/// A code, its number and its words.
+struct Listed(AbortCode, u32, &'static str);
+
+/// The codes of CiA 301 that have a name here.
+#[rattlefmt::skip]
+const LISTED: [Listed; 16] = [
+    Listed(AbortCode::ToggleNotAlternated, 0x0503_0000, "toggle bit not alternated"),
+    Listed(AbortCode::TimedOut, 0x0504_0000, "SDO protocol timed out"),
+    Listed(AbortCode::UnknownCommand, 0x0504_0001, "command specifier not valid or unknown"),
+    Listed(AbortCode::InvalidBlockSize, 0x0504_0002, "invalid block size"),
+    Listed(AbortCode::InvalidSequenceNumber, 0x0504_0003, "invalid sequence number"),
+    Listed(AbortCode::CrcError, 0x0504_0004, "CRC error"),
+    Listed(AbortCode::OutOfMemory, 0x0504_0005, "out of memory"),
+    Listed(AbortCode::WriteOnly, 0x0601_0001, "attempt to read a write-only object"),
+    Listed(AbortCode::ReadOnly, 0x0601_0002, "attempt to write a read-only object"),
+    Listed(AbortCode::NoObject, 0x0602_0000, "object does not exist in the object dictionary"),
+    Listed(AbortCode::LengthMismatch, 0x0607_0010, "length of the data does not match"),
+    Listed(AbortCode::LengthTooHigh, 0x0607_0012, "length of the data too high"),
+    Listed(AbortCode::LengthTooLow, 0x0607_0013, "length of the data too low"),
+    Listed(AbortCode::NoSubindex, 0x0609_0011, "subindex does not exist"),
+    Listed(AbortCode::InvalidValue, 0x0609_0030, "invalid value for the parameter"),
+    Listed(AbortCode::GeneralError, 0x0800_0000, "general error"),
+];
+
+#[test]
+fn codes_have_their_numbers_and_words(rt: HostRuntime) {
+    for &Listed(code, number, words) in &LISTED {
+        assert_eq!(rt; u32::from(code), number);
+        assert!(rt; AbortCode::from(number) == code);
+        assert_eq!(rt; code.words(), words);
+    }
+}
+
 #[test]
 fn frames_are_written_as_candump_writes_them(rt: HostRuntime) -> Result<(), Fail> {
     let heap = rt.alloc();
