@@ -1,4 +1,5 @@
 pub mod FieldsBack
 pub mod Identifiers
+pub mod Sameness
 pub mod Codes
 pub mod Spelling

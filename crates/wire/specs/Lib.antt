@@ -7,3 +7,4 @@ pub mod Transfers
 pub mod Frames
 pub mod Texts
 pub mod Fits
+pub mod Equality

@@ -2,6 +2,7 @@
 #![tactic(auto)]
 
 mod abort_code;
+mod equality;
 mod frame;
 mod frame_data;
 mod identifier;
@@ -12,6 +13,7 @@ mod text;
 mod transfer;
 
 pub use abort_code::{AbortCode, codes_read_back};
+pub use equality::{equal_data, equal_frames};
 pub use frame::Frame;
 pub use frame_data::{ExpeditedData, FrameData};
 pub use identifier::Identifier;
