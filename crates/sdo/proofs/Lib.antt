@@ -1,5 +1,5 @@
 pub mod FieldsBack
-pub mod Framing
 pub mod Joining
 pub mod RoundTrips
 pub mod Spelling
+pub mod Sameness

@@ -4,6 +4,7 @@
 mod answer;
 mod block_request;
 mod crc_offer;
+mod equality;
 mod making;
 mod ranged;
 mod reading;
@@ -17,6 +18,7 @@ mod toggle;
 pub use answer::Answer;
 pub use block_request::BlockRequest;
 pub use crc_offer::CrcOffer;
+pub use equality::equal_messages;
 pub use ranged::{BlockSize, Ranged, SequenceNumber, UnusedBytes};
 pub use request::Request;
 pub use round_trips::messages_read_back;

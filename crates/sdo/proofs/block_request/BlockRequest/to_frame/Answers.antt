@@ -1,5 +1,5 @@
 use Rattle.std.proofs.Common.{rules}
-use Rattle.sdo.proofs.Framing.{framed}
+use Rattle.wire.proofs.Identifiers.{framed}
 use Rattle.sdo.proofs.block_request.BlockRequest.to_frame.Goals as goal
 
 pub returns : goal.returns
