@@ -133,6 +133,7 @@ fn frames_are_written_as_candump_writes_them(rt: HostRuntime) -> Result<(), Fail
         "5FF#6000200100000000"
     );
     assert_eq!(rt; format!(in heap; "{code}")?.as_str(), "0609 0011");
+    assert_eq!(rt; format!(in heap; "{RAMP}")?.as_str(), "2000:01");
     Ok(())
 }
 
