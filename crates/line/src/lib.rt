@@ -9,6 +9,7 @@ mod pattern;
 mod queue;
 mod recorder;
 mod recording;
+mod rooms;
 mod sent;
 
 pub use bounded_line::{BoundedLine, MailboxLine, MemoryLine};
@@ -17,4 +18,5 @@ pub use end::End;
 pub use line::Line;
 pub use recorder::Recorder;
 pub use recording::Recording;
+pub use rooms::named_rooms;
 pub use sent::Sent;
