@@ -1,5 +1,5 @@
 -- A transfer sets one value at most: a commit leaves the node idle, and an idle node sets nothing before the next start.
-use Rattle.std.proofs.Common.{◌≡◌, ℕ, ◌+◌, ◌≤◌, Bool, true, false, cond, eqb, List, [], ◌∷◌, Some, None, Option, ◌⊎◌, inl, inr, sym, refl, ap, subst, arith}
+use Rattle.std.proofs.Common.{◌≡◌, ℕ, ◌≤◌, Bool, true, false, cond, eqb, List, [], ◌∷◌, Some, None, Option, ◌⊎◌, inl, inr, sym, refl, ap, subst, arith}
 use Rattle.wire.specs.declared.frame.Frame.{Frame}
 use Rattle.wire.specs.Frames.{request_identifier}
 use Rattle.sdo.specs.Requests.{Request, request_in}

@@ -1,9 +1,16 @@
 -- Whole runs of a node: what was served and which ticks passed, one after the other.
--- Beside the node there is one who only hears what is sent to it and what it answers, and writes down the data of the segments that were taken.
+-- Beside the node there is one who only hears what is sent to it and what it answers, and writes down what a start said and the data of the
+-- segments that were taken.
 use Rattle.std.specs.Prelude.{◌≡◌, ℕ, ◌+◌, ◌-◌, ◌≤◌, Bool, true, false, cond, List, [], ◌∷◌, ◌++◌, length, take, Some, None, Option, ◌==◌}
 use Rattle.wire.specs.declared.frame.Frame.{Frame}
 use Rattle.wire.specs.declared.multiplexor.Multiplexor.{Multiplexor}
 use Rattle.wire.specs.Frames.{request_identifier}
+use Rattle.crc.specs.Registers.{crc}
+use Rattle.sdo.specs.declared.crc_offer.CrcOffer.{CrcOffer}
+use Rattle.sdo.specs.declared.crc_offer.CrcOffer.TheVariants.{Offered, NotOffered}
+use Rattle.sdo.specs.declared.toggle.Toggle.{Toggle}
+use Rattle.sdo.specs.declared.toggle.Toggle.TheVariants.{Zero}
+use Rattle.sdo.specs.Segments.{other}
 use Rattle.sdo.specs.Answers.{Answer}
 use Rattle.sdo.specs.Answers as answer
 use Rattle.sdo.specs.BlockRequests.{BlockRequest, block_request_in}
@@ -12,28 +19,49 @@ use Rattle.sdo.specs.Requests.{Request, request_in}
 use Rattle.sdo.specs.Requests as request
 use Rattle.wire.specs.Transfers as coming
 use Rattle.dictionary.specs.Entries.{Entry}
+use Rattle.node.specs.declared.block_start.BlockStart.{BlockStart}
+use Rattle.node.specs.declared.download_start.DownloadStart.{DownloadStart}
 use Rattle.node.specs.declared.served.Served.{Served}
 use Rattle.node.specs.declared.served.Served.TheVariants.{NothingWaited, Committed, Aborted, Answered, Dropped, Kept}
 use Rattle.node.specs.States.{State, is_idle}
-use Rattle.node.specs.Steps.{Setting, step}
+use Rattle.node.specs.Steps.{Step, Setting, step}
 use Rattle.node.specs.Nodes.{tick}
 use Rattle.node.specs.Laws.{dictionary_after, node_after, in_block, is_start}
 
--- what is written down of the open write: nothing, where it goes and the data of its segments, or in block reception also the number that the next segment must have
+-- what is written down of the open write: nothing, or what its start said, what the next segment must have, and the data so far
 pub data Notes : Type 0 where
   Nothing : Notes
-  Segments : Multiplexor → List ℕ → Notes
-  Block : Multiplexor → ℕ → List ℕ → Notes
+  -- a write in segments: the toggle that the next one must have
+  Segments : DownloadStart → Toggle → List ℕ → Notes
+  -- a block write: the number that the next one must have in its sub-block
+  Block : BlockStart → ℕ → List ℕ → Notes
+  -- a block write whose last segment is there
+  Whole : BlockStart → List ℕ → Notes
 
-abbrev pub noted_at : Notes → Multiplexor
-noted_at Nothing = record { index = 0; subindex = 0 }
-noted_at (Segments m v) = m
-noted_at (Block m s v) = m
+abbrev pub noted_start : Notes → DownloadStart
+noted_start Nothing = record { multiplexor = record { index = 0; subindex = 0 }; size = None }
+noted_start (Segments z t v) = z
+noted_start (Block b s v) = b.download
+noted_start (Whole b v) = b.download
 
 abbrev pub noted : Notes → List ℕ
 noted Nothing = []
-noted (Segments m v) = v
-noted (Block m s v) = v
+noted (Segments z t v) = v
+noted (Block b s v) = v
+noted (Whole b v) = v
+
+abbrev pub noted_toggle : Notes → Option Toggle
+noted_toggle Nothing = None
+noted_toggle (Segments z t v) = Some t
+noted_toggle (Block b s v) = None
+noted_toggle (Whole b v) = None
+
+-- one more segment of a write is taken: the next one has the other toggle
+abbrev pub extended : Notes → List ℕ → Notes
+extended Nothing x = Nothing
+extended (Segments z t v) x = Segments z (other t) (v ++ x)
+extended (Block b s v) x = Block b s v
+extended (Whole b v) x = Whole b v
 
 -- the notes by what serve told: others where the frame was answered or kept, none where the transfer is over, else the same
 abbrev pub told : Served → Notes → Notes → Notes → Notes
@@ -46,11 +74,12 @@ told Kept answered kept same = kept
 
 -- a request that was answered: a start of a write begins new notes, a segment of one adds its data
 abbrev pub after_request : Notes → Request → Notes
-after_request w (request.InitiateDownload m how) = Segments m []
-after_request w (request.DownloadSegment u x last) = Segments (noted_at w) (noted w ++ x)
+after_request w (request.InitiateDownload m (coming.Expedited v)) = Nothing
+after_request w (request.InitiateDownload m (coming.Segmented size)) = Segments (record { multiplexor = m; size = size }) Zero []
+after_request w (request.DownloadSegment u x last) = extended w x
 after_request w (request.InitiateUpload m) = Nothing
 after_request w (request.UploadSegment u) = Nothing
-after_request w (request.InitiateBlockDownload m c size) = Block m 1 []
+after_request w (request.InitiateBlockDownload m c size) = Block (record { download = record { multiplexor = m; size = size }; crc = c }) 1 []
 after_request w (request.EndBlockDownload unused k) = w
 after_request w (request.Abort m c) = w
 
@@ -59,27 +88,28 @@ after_known w r None = told r w w w
 after_known w r (Some q) = told r (after_request w q) w w
 
 -- an acknowledgement of the awaited number tells that the segment was kept, another that it was not; behind the last segment the notes are whole
-abbrev pub acknowledged : Multiplexor → ℕ → List ℕ → Bool → List ℕ → Option Answer → Notes
-acknowledged m s v last x None = Block m s v
-acknowledged m s v last x (Some (answer.InitiateDownload n)) = Block m s v
-acknowledged m s v last x (Some (answer.DownloadSegment t)) = Block m s v
-acknowledged m s v last x (Some (answer.InitiateUpload n t)) = Block m s v
-acknowledged m s v last x (Some (answer.UploadSegment t y z)) = Block m s v
-acknowledged m s v last x (Some (answer.InitiateBlockDownload n c k)) = Block m s v
-acknowledged m s v last x (Some (answer.AcknowledgeBlock a n)) = cond (a == s) (cond last (Segments m (v ++ x)) (Block m 1 (v ++ x))) (Block m 1 v)
-acknowledged m s v last x (Some answer.EndBlockDownload) = Block m s v
-acknowledged m s v last x (Some (answer.Abort n c)) = Block m s v
+abbrev pub acknowledged : BlockStart → ℕ → List ℕ → Bool → List ℕ → Option Answer → Notes
+acknowledged b s v last x None = Block b s v
+acknowledged b s v last x (Some (answer.InitiateDownload n)) = Block b s v
+acknowledged b s v last x (Some (answer.DownloadSegment t)) = Block b s v
+acknowledged b s v last x (Some (answer.InitiateUpload n t)) = Block b s v
+acknowledged b s v last x (Some (answer.UploadSegment t y z)) = Block b s v
+acknowledged b s v last x (Some (answer.InitiateBlockDownload n c k)) = Block b s v
+acknowledged b s v last x (Some (answer.AcknowledgeBlock a n)) = cond (a == s) (cond last (Whole b (v ++ x)) (Block b 1 (v ++ x))) (Block b 1 v)
+acknowledged b s v last x (Some answer.EndBlockDownload) = Block b s v
+acknowledged b s v last x (Some (answer.Abort n c)) = Block b s v
 
 -- a message in block reception: a segment that is kept adds its seven bytes
-abbrev pub after_block : Multiplexor → ℕ → List ℕ → Served → Option Answer → BlockRequest → Notes
-after_block m s v r a (block.Segment last k x) = told r (acknowledged m s v last x a) (Block m (s + 1) (v ++ x)) (Block m s v)
-after_block m s v r a (block.Abort n c) = told r (Block m s v) (Block m s v) (Block m s v)
+abbrev pub after_block : BlockStart → ℕ → List ℕ → Served → Option Answer → BlockRequest → Notes
+after_block b s v r a (block.Segment last k x) = told r (acknowledged b s v last x a) (Block b (s + 1) (v ++ x)) (Block b s v)
+after_block b s v r a (block.Abort n c) = told r (Block b s v) (Block b s v) (Block b s v)
 
 -- the notes after a frame with some bytes, by what serve told and what was answered
 abbrev pub notes_after : Notes → List ℕ → Served → Option Answer → Notes
 notes_after Nothing bytes r a = after_known Nothing r (request_in bytes)
-notes_after (Segments m v) bytes r a = after_known (Segments m v) r (request_in bytes)
-notes_after (Block m s v) bytes r a = after_block m s v r a (block_request_in bytes)
+notes_after (Segments z t v) bytes r a = after_known (Segments z t v) r (request_in bytes)
+notes_after (Block b s v) bytes r a = after_block b s v r a (block_request_in bytes)
+notes_after (Whole b v) bytes r a = after_known (Whole b v) r (request_in bytes)
 
 -- an abort in a tick ends a transfer
 abbrev pub notes_by : Option Answer → Notes → Notes
@@ -153,22 +183,80 @@ to m v = record { multiplexor = m; value = v }
 abbrev pub carried : Notes → Request → Setting
 carried w (request.InitiateDownload m (coming.Expedited v)) = to m v
 carried w (request.InitiateDownload m (coming.Segmented size)) = to m []
-carried w (request.DownloadSegment u x last) = to (noted_at w) (noted w ++ x)
+carried w (request.DownloadSegment u x last) = to (noted_start w).multiplexor (noted w ++ x)
 carried w (request.InitiateUpload m) = to m []
-carried w (request.UploadSegment u) = to (noted_at w) []
+carried w (request.UploadSegment u) = to (noted_start w).multiplexor []
 carried w (request.InitiateBlockDownload m c size) = to m []
-carried w (request.EndBlockDownload unused k) = to (noted_at w) (take (length (noted w) - unused) (noted w))
-carried w (request.Abort m c) = to (noted_at w) []
+carried w (request.EndBlockDownload unused k) = to (noted_start w).multiplexor (take (length (noted w) - unused) (noted w))
+carried w (request.Abort m c) = to (noted_start w).multiplexor []
 
--- a frame completes a write: it asks for something that with the notes makes up what is set, and where
-pub record Completes (w : Notes) (f : Frame) (x : Setting) : Type 0 where
+-- such a request: an expedited start, a segment that is marked as the last, or a block's end
+abbrev pub completes : Request → Bool
+completes (request.InitiateDownload m (coming.Expedited v)) = true
+completes (request.InitiateDownload m (coming.Segmented size)) = false
+completes (request.DownloadSegment u x last) = last
+completes (request.InitiateUpload m) = false
+completes (request.UploadSegment u) = false
+completes (request.InitiateBlockDownload m c size) = false
+completes (request.EndBlockDownload unused k) = true
+completes (request.Abort m c) = false
+
+-- the size that the start of the write announced, where the value comes behind it
+abbrev pub announced : Notes → Request → Option ℕ
+announced w (request.InitiateDownload m how) = None
+announced w q = (noted_start w).size
+
+-- the CRC that a block's end gives, where the start offered one
+abbrev pub offered : CrcOffer → ℕ → Option ℕ
+offered Offered k = Some k
+offered NotOffered k = None
+
+abbrev pub noted_offer : Notes → CrcOffer
+noted_offer Nothing = NotOffered
+noted_offer (Segments z t v) = NotOffered
+noted_offer (Block b s v) = b.crc
+noted_offer (Whole b v) = b.crc
+
+abbrev pub given_crc : Notes → Request → Option ℕ
+given_crc w (request.EndBlockDownload unused k) = offered (noted_offer w) k
+given_crc w q = None
+
+-- a request completes a write: with the notes it makes up what is set, and where, as it was announced
+pub record Completes (w : Notes) (q : Request) (x : Setting) : Type 0 where
+  pub whole : x ≡ carried w q
+  pub last : completes q ≡ true
+  pub sized : (n : ℕ) → announced w q ≡ Some n → length x.value ≡ n
+  pub checked : (k : ℕ) → given_crc w q ≡ Some k → crc x.value ≡ k
+
+-- a frame asks for something
+pub record Says (P : Request → Type 0) (f : Frame) : Type 0 where
   pub message : Request
   pub said : request_in f.bytes ≡ Some message
-  pub whole : x ≡ carried w message
+  pub so : P message
+
+-- a segment of a write by its toggle, which is the one that the notes await
+pub record InTurn (w : Notes) (t : Toggle) (q : Request) : Type 0 where
+  pub bytes : List ℕ
+  pub last : Bool
+  pub segment : q ≡ request.DownloadSegment t bytes last
+  pub awaited : noted_toggle w ≡ Some t
+
+-- a run from an idle node
+abbrev pub past : List Entry → State → List Event → Scene
+past d s es = run es (record { dictionary = d; node = s; notes = Nothing })
+
+abbrev pub step_after : List Entry → State → List Event → Frame → Step
+step_after d s es f = step (past d s es).dictionary (past d s es).node (Some f)
 
 -- in every run from an idle node, each value that is set has exactly the bytes that the segments carried which were taken since the start,
--- and is set where that start said
+-- and is set where that start said; it has the size that was announced, and the CRC that was given
 abbrev pub ValuesCarried : Type 0
 ValuesCarried =
     (d : List Entry) (s : State) → is_idle s.transfer ≡ true → (es : List Event) (f : Frame) (x : Setting)
-    → let y = run es (record { dictionary = d; node = s; notes = Nothing }) in (step y.dictionary y.node (Some f)).set ≡ Some x → Completes y.notes f x
+    → (step_after d s es f).set ≡ Some x → Says (λ q. Completes (past d s es).notes q x) f
+
+-- and the segments of a write are answered in turn: with toggle 0 the first, and then with the other toggle each time
+abbrev pub TogglesAlternate : Type 0
+TogglesAlternate =
+    (d : List Entry) (s : State) → is_idle s.transfer ≡ true → (es : List Event) (f : Frame) (t : Toggle)
+    → (step_after d s es f).reply ≡ Some (answer.DownloadSegment t) → Says (InTurn (past d s es).notes t) f

@@ -1,15 +1,16 @@
 //! What follows for every node from what its steps and ticks are defined to be.
 ghost use Rattle.node.specs.Laws.{CommitsTold, OthersLeave, TicksLeave, AbortsLeaveIdle, ForeignDropped, StartsReplace, AbortsHeard, OthersRefused, UnknownRefused, BlockAborted, BlockStays};
-ghost use Rattle.node.specs.Runs.{OneAtMost, ValuesCarried};
+ghost use Rattle.node.specs.Runs.{OneAtMost, ValuesCarried, TogglesAlternate};
 ghost use Rattle.node.specs.Laws.{FramesRestart, NoneChangesNothing, TimeRunsOut};
 
-/// Only a commit changes the dictionary, it is told and counted, a transfer has one at most, and its value is what the transfer carried. It does nothing; its contract states the laws.
+/// Only a commit changes the dictionary, it is told and counted, a transfer has one at most, and its value is what the transfer carried, with toggles in turn, of the announced size and with the given CRC. It does nothing; its contract states the laws.
 pub fn commit_laws()
     ensures commits_told { CommitsTold }
     ensures others_leave { OthersLeave }
     ensures ticks_leave { TicksLeave }
     ensures one_at_most { OneAtMost }
     ensures values_carried { ValuesCarried }
+    ensures toggles_alternate { TogglesAlternate }
 {}
 
 /// What a node makes of starts, aborts and all that it does not await. It does nothing; its contract states the laws.
