@@ -15,14 +15,14 @@ use Rattle.master.specs.Laws.{Finishes, Awaited, SuccessIsAnswered, AbortHeardEn
 use Rattle.master.proofs.Outcomes.{Outcome, goes_on, ended, was_told, succeeded, HeardAs, stays, answers, hear_outcome}
 use Rattle.master.proofs.Addressing.{addressed}
 
-finished_by : {s : State} {w : Awaiting} {o : Option Answer} {p : Step} → Outcome s w o p → p.next.phase ≡ Over (Ok tt) → (a : Answer) × ((o ≡ Some a) × Finishes s w a)
+finished_by : {s : State} {w : Awaiting} {o : Option Answer} {p : Step} → Outcome s w o p → p.next.phase ≡ Over (Ok tt) → (a : Answer) × ((o ≡ Some a) × Finishes s w a p.next.value)
 unfolding found told
 finished_by (goes_on u h v fs some paid) e = cc
 finished_by (ended c) e = cc
 finished_by (was_told c) e = cc
 finished_by (succeeded a v is fin) e = (a, (is, fin))
 
-answered_by : {s : State} {f : Option Frame} {p : Step} → HeardAs s f p → p.heard ≡ heard.Over → p.next.phase ≡ Over (Ok tt) → (g : Frame) × ((f ≡ Some g) × Awaited s g)
+answered_by : {s : State} {f : Option Frame} {p : Step} → HeardAs s f p → p.heard ≡ heard.Over → p.next.phase ≡ Over (Ok tt) → (g : Frame) × ((f ≡ Some g) × Awaited s g p.next.value)
 answered_by (stays h no-over no-sent) over e = absurd (no-over over)
 answered_by (answers w g own is from out) over e =
     let last = finished_by out e in

@@ -1,5 +1,5 @@
 -- What a frame can come to, told once for all laws.
-use Rattle.std.proofs.Common.{◌≡◌, ℕ, ◌+◌, ◌-◌, ◌*◌, ◌<◌, ◌≤◌, min, Bool, true, false, cond, eqb, ltb, leb, List, [], ◌++◌, length, Some, None, Ok, Err, Option, Result, refl, arith}
+use Rattle.std.proofs.Common.{◌≡◌, ℕ, ◌+◌, ◌-◌, ◌*◌, ◌<◌, ◌≤◌, min, Bool, true, false, cond, not, eqb, ltb, leb, List, [], ◌++◌, length, Some, None, Ok, Err, Option, Result, refl, arith}
 use native.Mathlib.Nat.{min-le_left, min-le_right, le-min}
 use Rattle.std.proofs.lemmas.Bool.{cond_both, eqb-true, eqb-false, ltb-true, ltb-false, leb-true, leb-false, and_parts}
 use Rattle.wire.specs.declared.frame.Frame.{Frame}
@@ -30,7 +30,7 @@ use Rattle.master.specs.Sendings.{sub_block_of}
 use Rattle.master.specs.Steps.{Step, found, unexpected, told, done, unmoved, send, send_segment, ask_segment, send_sub_block, send_end, go_on, block_started, kept, segment_taken, upload_started, read_whole, read_on, started, toggled, hear_initiate_download, hear_download_segment, hear_initiate_upload, hear_upload_segment, hear_initiate_block, hear_acknowledgement, hear_end, answered, read, hear_open, hear_in, parting, abandoned, hear}
 use Rattle.master.specs.Calls.{Order, Started, Ticking, first_awaited, ordered, opened, starting, begin_if, counted}
 use Rattle.master.specs.Runs.{started_frames, accepted}
-use Rattle.master.specs.Laws.{Finishes, written_at_once, last_taken, read_at_once, last_given, block_closed}
+use Rattle.master.specs.Laws.{ReadWhole, Finishes, written_at_once, last_taken, read_at_once, last_given, block_closed}
 use Rattle.master.proofs.SubBlocks.{sub_block-length}
 
 -- a state by its phase
@@ -62,13 +62,22 @@ pub data Outcome (s : State) (w : Awaiting) (o : Option Answer) : Step → Type 
   goes_on : (u : Awaiting) (h : ℕ) (v : List ℕ) (fs : List Frame) → 1 ≤ length fs → (Writes w → Paid s w u v fs) → Outcome s w o (send s u h v fs)
   ended : (c : AbortCode) → Outcome s w o (found s w c)
   was_told : (c : AbortCode) → Outcome s w o (told s c)
-  succeeded : (a : Answer) (v : List ℕ) → o ≡ Some a → Finishes s w a → Outcome s w o (done s v)
+  succeeded : (a : Answer) (v : List ℕ) → o ≡ Some a → Finishes s w a v → Outcome s w o (done s v)
 
 equal_toggles : (t u : Toggle) → same_toggle t u ≡ true → t ≡ u
 equal_toggles Zero Zero e = refl
 equal_toggles Zero One e = cc
 equal_toggles One Zero e = cc
 equal_toggles One One e = refl
+
+-- an announced size that does not differ is the number of bytes
+by_not : (x : Bool) → not x ≡ false → x ≡ true
+by_not true e = refl
+by_not false e = cc
+
+as_announced : (o : Option ℕ) (n : ℕ) → differs o n ≡ false → (k : ℕ) → o ≡ Some k → n ≡ k
+as_announced None n e k h = cc
+as_announced (Some size) n e k h = let equal : size ≡ n = eqb-true size n (by_not (eqb size n) e) in cc
 
 module _ (s : State) where
   started_outcome : (w : Awaiting) (m : Multiplexor) (o : Option Answer) (p : Step) → (same m s.multiplexor ≡ true → Outcome s w o p) → Outcome s w o (started s w m p)
@@ -142,25 +151,27 @@ module _ (s : State) where
   initiate_upload awaiting.InitiateUpload m how = started_outcome awaiting.InitiateUpload m _ (upload_started s awaiting.InitiateUpload how) (λ e. upload_outcome m how e)
   initiate_upload w m how = ended UnknownCommand
 
-  read_outcome : (t u : Toggle) (size : Option ℕ) (x v : List ℕ) (last : Bool) → t ≡ u → Outcome s (awaiting.UploadSegment t size) (Some (answer.UploadSegment u x last)) (read_on s (awaiting.UploadSegment t size) t size last v)
-  read_outcome t u size x v true same_bit =
+  read_outcome : (t u : Toggle) (size : Option ℕ) (x v : List ℕ) (last : Bool) → t ≡ u → v ≡ s.value ++ x → Outcome s (awaiting.UploadSegment t size) (Some (answer.UploadSegment u x last)) (read_on s (awaiting.UploadSegment t size) t size last v)
+  read_outcome t u size x v true same_bit joined =
       let w = awaiting.UploadSegment t size in
       let P : Step → Type 0 = λ q. Outcome s w (Some (answer.UploadSegment u x true)) q in
       cond_both (ltb 1024 (length v)) (found s w OutOfMemory) (read_whole s w size v) P
       (λ _. ended OutOfMemory)
-      (λ _. cond_both (ltb (length v) 1) (found s w OutOfMemory) (cond (differs size (length v)) (found s w LengthMismatch) (done s v)) P
+      (λ high. cond_both (ltb (length v) 1) (found s w OutOfMemory) (cond (differs size (length v)) (found s w LengthMismatch) (done s v)) P
       (λ _. ended OutOfMemory)
-      (λ _. cond_both (differs size (length v)) (found s w LengthMismatch) (done s v) P
+      (λ low. cond_both (differs size (length v)) (found s w LengthMismatch) (done s v) P
       (λ _. ended LengthMismatch)
-      (λ _. succeeded (answer.UploadSegment u x true) v refl (last_given t u size x same_bit))))
-  read_outcome t u size x v false same_bit =
+      (λ e.
+      let whole : ReadWhole size v = record { some = ltb-false (length v) 1 low; no_more = ltb-false 1024 (length v) high; announced = as_announced size (length v) e } in
+      succeeded (answer.UploadSegment u x true) v refl (last_given t u size x v same_bit joined whole))))
+  read_outcome t u size x v false same_bit joined =
       let w = awaiting.UploadSegment t size in
       cond_both (ltb 1024 (length v)) (found s w OutOfMemory) (ask_segment s (other t) size v) (λ q. Outcome s w (Some (answer.UploadSegment u x false)) q)
       (λ _. ended OutOfMemory)
       (λ _. goes_on _ _ _ _ (omega arith) (λ no_write. absurd no_write))
 
   upload_segment : (w : Awaiting) (u : Toggle) (x : List ℕ) (last : Bool) → Outcome s w (Some (answer.UploadSegment u x last)) (hear_upload_segment s w u x last)
-  upload_segment (awaiting.UploadSegment t size) u x last = toggled_outcome (awaiting.UploadSegment t size) t u _ (read_on s (awaiting.UploadSegment t size) t size last (s.value ++ x)) (λ e. read_outcome t u size x (s.value ++ x) last e)
+  upload_segment (awaiting.UploadSegment t size) u x last = toggled_outcome (awaiting.UploadSegment t size) t u _ (read_on s (awaiting.UploadSegment t size) t size last (s.value ++ x)) (λ e. read_outcome t u size x (s.value ++ x) last e refl)
   upload_segment w u x last = ended UnknownCommand
 
   initiate_block : (w : Awaiting) (m : Multiplexor) (c : CrcOffer) (n : ℕ) → Outcome s w (Some (answer.InitiateBlockDownload m c n)) (hear_initiate_block s w m c n)

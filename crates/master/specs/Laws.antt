@@ -58,26 +58,32 @@ pub record Rests (n : ℕ) (t : State) : Type 0 where
 abbrev pub RestsForThirtyTicks : Type 0
 RestsForThirtyTicks = (s t : State) (fs : List Frame) (n : ℕ) → JustFailed s → Run s fs n t → Rests n t
 
--- the last answer of a transfer, by what is awaited
-pub data Finishes (s : State) : Awaiting → Answer → Type 0 where
-  written_at_once : (m : Multiplexor) → same m s.multiplexor ≡ true → Finishes s awaiting.ExpeditedDownload (answer.InitiateDownload m)
-  last_taken : (t u : Toggle) (k : ℕ) → t ≡ u → is_last s.value k ≡ true → Finishes s (awaiting.DownloadSegment t k) (answer.DownloadSegment u)
-  read_at_once : (m : Multiplexor) (v : List ℕ) → same m s.multiplexor ≡ true → Finishes s awaiting.InitiateUpload (answer.InitiateUpload m (Expedited v))
-  last_given : (t u : Toggle) (size : Option ℕ) (x : List ℕ) → t ≡ u → Finishes s (awaiting.UploadSegment t size) (answer.UploadSegment u x true)
-  block_closed : Finishes s awaiting.EndBlockDownload answer.EndBlockDownload
+-- a value that was read in segments: it has 1 to 1,024 bytes, and as many as were announced
+pub record ReadWhole (size : Option ℕ) (v : List ℕ) : Type 0 where
+  pub some : 1 ≤ length v
+  pub no_more : length v ≤ 1024
+  pub announced : (n : ℕ) → size ≡ Some n → length v ≡ n
 
--- a frame from the node that has the last answer of the open transfer
-pub record Awaited (s : State) (g : Frame) : Type 0 where
+-- the last answer of a transfer, by what is awaited, and the value that is then written or read
+pub data Finishes (s : State) : Awaiting → Answer → List ℕ → Type 0 where
+  written_at_once : (m : Multiplexor) → same m s.multiplexor ≡ true → Finishes s awaiting.ExpeditedDownload (answer.InitiateDownload m) s.value
+  last_taken : (t u : Toggle) (k : ℕ) → t ≡ u → is_last s.value k ≡ true → Finishes s (awaiting.DownloadSegment t k) (answer.DownloadSegment u) s.value
+  read_at_once : (m : Multiplexor) (v : List ℕ) → same m s.multiplexor ≡ true → Finishes s awaiting.InitiateUpload (answer.InitiateUpload m (Expedited v)) v
+  last_given : (t u : Toggle) (size : Option ℕ) (x v : List ℕ) → t ≡ u → v ≡ s.value ++ x → ReadWhole size v → Finishes s (awaiting.UploadSegment t size) (answer.UploadSegment u x true) v
+  block_closed : Finishes s awaiting.EndBlockDownload answer.EndBlockDownload s.value
+
+-- a frame from the node that has the last answer of the open transfer, whose value is then v
+pub record Awaited (s : State) (g : Frame) (v : List ℕ) : Type 0 where
   pub waits : Awaiting
   pub says : Answer
   pub open_for : s.phase ≡ Open waits
   pub from_node : g.identifier.number ≡ (answer_identifier s.node).number
   pub in_bytes : answer_in g.bytes ≡ Some says
-  pub last : Finishes s waits says
+  pub last : Finishes s waits says v
 
 -- success is told only where such a frame was heard
 abbrev pub SuccessIsAnswered : Type 0
-SuccessIsAnswered = (s : State) (f : Option Frame) → (hear s f).heard ≡ heard.Over → (hear s f).next.phase ≡ Over (Ok tt) → (g : Frame) × ((f ≡ Some g) × Awaited s g)
+SuccessIsAnswered = (s : State) (f : Option Frame) → (hear s f).heard ≡ heard.Over → (hear s f).next.phase ≡ Over (Ok tt) → (g : Frame) × ((f ≡ Some g) × Awaited s g (hear s f).next.value)
 
 -- what an abort that was heard comes to: the transfer fails by its code, and nothing is sent, but the line is quieted
 pub record EndedBy (s : State) (c : AbortCode) (f : Option Frame) : Type 0 where
