@@ -17,3 +17,4 @@ pub mod Parting
 pub mod Ticking
 pub mod Settling
 pub mod Runs
+pub mod Commits

@@ -6,3 +6,4 @@ pub mod Books
 pub mod Watches
 pub mod Law
 pub mod Cases
+pub mod Commits
