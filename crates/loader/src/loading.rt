@@ -12,7 +12,7 @@ use session::{LONGEST, Session};
 /// The most frames that an end takes in a round.
 const MOST_FRAMES: usize = 300;
 
-/// The most rounds of a transfer: a write sends at most 1,300 frames, as `master::master_laws` states, and ends ten ticks after the last.
+/// The most rounds of a transfer: a write sends at most 1,300 frames, as `master::master_laws` states, and ends in the tenth tick without one.
 const MOST_ROUNDS: usize = 13_000;
 
 /// The ticks for which a master rests after a transfer that failed.
