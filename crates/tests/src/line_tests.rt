@@ -3,7 +3,7 @@ use line::{BoundedLine, DropLayer, End, Line, MailboxLine, MemoryLine, Recorder,
 use wire::{Frame, Identifier, NodeNumber};
 
 /// A frame that is told from others by a number.
-// As in the other crate of tests, and to the other end: no crate lies below both that tests could share.
+// As in `layer_tests`, and to the other end: no crate lies below both that tests could share.
 fn numbered(number: u8) -> Frame {
     Frame {
         identifier: Identifier::of_requests(NodeNumber::nearest(5)),
