@@ -1,5 +1,5 @@
 -- A node takes a segment of a sub-block.
-use Rattle.std.proofs.Common.{◌≡◌, ℕ, zero, suc, ◌+◌, ◌-◌, ◌*◌, ◌<◌, ◌≤◌, Bool, true, false, ◌||◌, eqb, List, [], ◌∷◌, ◌++◌, length, take, replicate, Some, sym, refl, ap, ◌∙◌, subst, inl, inr, arith, append_assoc, take-add}
+use Rattle.std.proofs.Common.{◌≡◌, ℕ, suc, ◌+◌, ◌-◌, ◌*◌, ◌<◌, ◌≤◌, Bool, true, false, ◌||◌, eqb, List, [], ◌∷◌, ◌++◌, length, take, replicate, Some, sym, refl, ap, ◌∙◌, subst, inl, inr, arith, append_assoc, take-add}
 use Rattle.std.proofs.lemmas.Bool.{cond_both, eqb-true, eqb-false, le-ltb, leb-true, leb-false, or_cases, true_from_ne_false}
 use Rattle.std.proofs.lemmas.List.{append-nil, length-append, length-take, length-drop, length-replicate, take_at, take_all}
 use Rattle.wire.specs.declared.node_number.NodeNumber.{NodeNumber}
@@ -7,13 +7,13 @@ use Rattle.wire.specs.FrameData.{padded}
 use Rattle.sdo.specs.Segments.{segment}
 use Rattle.sdo.specs.Answers as answer
 use Rattle.sdo.specs.BlockRequests as block
-use Rattle.sdo.specs.RoundTrips.{Numbered}
 use Rattle.sdo.proofs.RoundTrips.{block_requests_read_back}
 use Rattle.dictionary.specs.Entries.{Entry}
 use Rattle.master.specs.declared.phase.SubBlock.{SubBlock}
 use Rattle.master.specs.Sendings.{block_segment}
 use Rattle.master.specs.States as master
 use Rattle.master.specs.Values.{segments, unused, is_last}
+use Rattle.master.proofs.SubBlocks.{segment-filled, numbered}
 use Rattle.node.specs.declared.reception.Reception.{Reception}
 use Rattle.node.specs.Buffers.{full}
 use Rattle.node.specs.States.{Transfer, BlockDownload}
@@ -48,17 +48,6 @@ next_numbers low high n ns h e =
     let split : n ∷ ns ≡ (low + 1) ∷ numbers (low + 1) (high - (low + 1)) = e ∙ ap (numbers low) one-more in
     let first : n ≡ low + 1 = cc in
     (first, rw first cc)
-
-segment-few : (k : ℕ) (v : List ℕ) → length (segment k v) ≤ 7
-segment-few zero v = omega arith
-segment-few (suc k) v = simp length-take (omega arith)
-
-segment-filled : (k : ℕ) (v : List ℕ) → length (padded 7 (segment k v)) ≡ 7
-segment-filled k v = simp (length-append, length-replicate) (omega (arith, segment-few k v))
-
-numbered : (last : Bool) (n : ℕ) → 1 ≤ n → n < 128 → Numbered last n
-numbered true n some few = (some, few)
-numbered false n some few = few
 
 module _ (d : List Entry) (M : master.State) (N : node.State) (x : SubBlock) (n : ℕ) (ns : List ℕ) (lost : Bool) (own : N.number ≡ M.node) (asks : BlockAsks M N.block_size.number x N.transfer lost (n ∷ ns)) where
   abbrev nb : ℕ

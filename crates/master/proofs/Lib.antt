@@ -1,7 +1,10 @@
 pub mod Addressing
 pub mod Answering
 pub mod Bounding
+pub mod Listening
+pub mod Noting
 pub mod Outcomes
 pub mod Resting
 pub mod SubBlocks
+pub mod Telling
 pub mod Waiting

@@ -7,3 +7,4 @@ pub mod Calls
 pub mod Shown
 pub mod Runs
 pub mod Laws
+pub mod Listening
