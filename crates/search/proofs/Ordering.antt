@@ -6,7 +6,7 @@ use Rattle.std.specs.Ordering.{is_lt, is_le, nat_cmp, ordering_reverse, ordering
 use Rattle.wire.specs.declared.multiplexor.Multiplexor.{Multiplexor}
 use Rattle.wire.specs.Multiplexors.{before}
 use Rattle.search.specs.Orders.{earlier, Irreflexive, Transitive}
-use Rattle.search.specs.Places.{Rising, Answers, Border, Parts}
+use Rattle.search.specs.Places.{Rising, Answers}
 
 less : (o : Ordering) → is_lt o ≡ true → o ≡ Less
 less Less h = refl
@@ -40,9 +40,3 @@ one_test alike = λ i a b. alike a b i
 module _ {K R : Type 0} {test other : K → K → Bool} (alike : (a b : K) → test a b ≡ other a b) {key : R → K} {k : K} {rs : List R} where
   pub answers_by : {o : Option ℕ} → (Rising test key rs → Answers test key k rs o) → Rising other key rs → Answers other key k rs o
   answers_by {o} = let P : (K → K → Bool) → Type 0 = λ t. Rising t key rs → Answers t key k rs o in subst P (one_test alike)
-
-  pub border_by : {n : ℕ} → Border test key k rs n → Border other key k rs n
-  border_by {n} = let P : (K → K → Bool) → Type 0 = λ t. Border t key k rs n in subst P (one_test alike)
-
-  pub parts_by : {n : ℕ} → (Rising test key rs → Parts test key k rs n) → Rising other key rs → Parts other key k rs n
-  parts_by {n} = let P : (K → K → Bool) → Type 0 = λ t. Rising t key rs → Parts t key k rs n in subst P (one_test alike)
