@@ -7,8 +7,8 @@ ghost use Rattle.law.specs.Calls.{begin_answer, begin_frames, begin_step, serve_
 ghost use Rattle.law.specs.Runs.{Begin, Serve, Hear, Tick};
 ghost use Rattle.law.specs.Law.{KeepsLaw};
 ghost use Rattle.bench.specs.Numbers.{nearest_number, nearest_size};
-ghost use Rattle.bench.specs.States.{state_of};
-ghost use Rattle.session.specs.Tickets.{master_of, Settles};
+ghost use Rattle.bench.specs.States.{master_of, state_of};
+ghost use Rattle.session.specs.Tickets.{Settles};
 
 use bench::{Bench, Ticket};
 use dictionary::Writable;
