@@ -3,7 +3,7 @@ ghost use Rattle.std.specs.Prelude.{◌≡◌};
 
 use std::marker::Model;
 
-/// The number of a transfer that has to be settled. Begin makes it, and settle alone takes it back.
+/// The number of a transfer that has to be settled. For other crates begin alone makes one, and settle alone takes it back.
 // Without Drop: a program that lets one go does not compile.
 pub struct Ticket {
     number: u16,
@@ -18,7 +18,7 @@ impl Model for Ticket {
 }
 
 impl Ticket {
-    /// The ticket of a transfer that has just begun.
+    /// The ticket of a number: of a transfer that has just begun, or of any that a list of calls names.
     pub(crate) fn new(number: u16) -> Ticket
         ensures { result ≡ number }
     {
@@ -32,7 +32,7 @@ impl Ticket {
         self.number
     }
 
-    /// Takes the ticket of a transfer that is settled.
+    /// Takes a ticket whose transfer is settled, or that was never out.
     pub(crate) fn take_back(self) {
         let Ticket { number: _ } = self;
     }
