@@ -7,7 +7,7 @@ ghost use Rattle.report.specs.Refusals.{settle_number};
 pub enum SettleRefusal {
     /// The ticket's number is not that of the ticket that is out.
     NotOut = 6,
-    /// The buffer has less than 1,024 bytes.
+    /// The buffer has fewer than 1,024 bytes.
     ShortBuffer = 7,
 }
 

@@ -1,4 +1,4 @@
-//! The report of a transfer, in the words of those who pay by them.
+//! The report of a transfer: what became of its value.
 ghost use Rattle.std.specs.Prelude.{◌≡◌};
 ghost use Rattle.report.specs.Reports.{report_of, failure_of, layer_in};
 
