@@ -24,7 +24,7 @@ impl Keyed for Registered {
     ghost connected = { Prim.search rules };
 }
 
-/// The codes whose layer is known, rising by number.
+/// The rows of the register, rising by number.
 const REGISTER: [Registered; 15] = [
     Registered(0x0503_0000, Layer::Protocol),
     Registered(0x0504_0000, Layer::Protocol),
