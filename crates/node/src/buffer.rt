@@ -6,9 +6,9 @@ mod methods;
 /// How many bytes a buffer has: 147 segments of seven, enough for 1,024 bytes and what fills up the last segment.
 const ROOM: usize = 1029;
 
+/// Up to 1,029 bytes, which contracts see as the list of those that are held.
 // An array with a length beside it, and no ArrayVec: a read fills the front of the whole array, which an ArrayVec would first have
 // to be filled up for.
-/// Up to 1,029 bytes, which contracts see as the list of those that are held.
 #[derive(Drop)]
 pub struct Buffer {
     bytes: [u8; ROOM],

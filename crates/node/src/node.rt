@@ -15,8 +15,8 @@ mod time;
 mod turns;
 mod writing;
 
-// It has no model: that would be the state alone, and the steps' contracts also speak of what the buffer holds outside a transfer.
 /// A node by its number and the size of its sub-blocks, what it is doing, the ticks since it took a frame, and how many values it has set, modulo 65,536.
+// It has no model: that would be the state alone, and the steps' contracts also speak of what the buffer holds outside a transfer.
 #[derive(Drop)]
 pub struct Node {
     number: NodeNumber,
