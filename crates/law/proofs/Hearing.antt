@@ -30,7 +30,7 @@ use Rattle.master.specs.declared.phase.Phase.TheVariants.{Open}
 use Rattle.master.specs.declared.phase.SubBlock.{SubBlock}
 use Rattle.master.specs.States as master
 use Rattle.master.specs.Steps.{found, told, parting, done, send, send_segment, send_end, ask_segment, go_on, acknowledge, hear_initiate_upload, hear_upload_segment, hear_in, hear, answered, Step}
-use Rattle.master.specs.Values.{segments, unused, same_toggle}
+use Rattle.master.specs.Values.{segments, unused}
 use Rattle.master.proofs.Addressing.{addressed}
 use Rattle.node.specs.States.{Transfer, Idle, BlockDownload, BlockEnd, next_sub_block}
 use Rattle.node.specs.States as node
@@ -40,6 +40,7 @@ use Rattle.law.proofs.Exchange.{order_start, block_order, verdict, Orderly, Repl
 use Rattle.law.proofs.Exchange as exchange
 use Rattle.law.proofs.Outcomes.{SameOrder, Sends, HeardAs, over, asks_on, sends_block}
 use Rattle.law.proofs.Outcomes as outcome
+use Rattle.law.proofs.Serving.{toggle_itself}
 
 -- an answer of an exchange fits its frame
 fitting : {d : List Entry} {M : master.State} {nb : ℕ} {dir : Direction} {w : Awaiting} {t : Transfer} {ahead lost : Bool} {a : Answer} → Indexed M.multiplexor → Replies d M nb dir w t ahead lost a → AnswerFits a
@@ -65,10 +66,6 @@ heard_answer M w a own fits = ap (λ p. hear_in M p (answer_frame M.node a)) own
 rising : (low k high : ℕ) → low + k ≤ high → Rising low high (numbers low k)
 rising low zero high h = tt
 rising low (suc k) high h = (omega arith, omega arith, rising (low + 1) k high (omega arith))
-
-itself : (t : Toggle) → same_toggle t t ≡ true
-itself Zero = refl
-itself One = refl
 
 -- an entry that may be read is there
 readable : (d : List Entry) (m : Multiplexor) → read_verdict d m ≡ None → There d m
@@ -173,7 +170,7 @@ module _ {d : List Entry} {M : master.State} {nb : ℕ} {lost : Bool} where
       let size : length v ≡ length M.value + 7 = simp (length-append, length-take) (omega arith) in
       let whole : v ++ drop 7 rest ≡ value_at d M.multiplexor = rw (append_assoc, take-append-drop) reading.whole in
       let left : length v + length (drop 7 rest) ≡ length (value_at d M.multiplexor) = sym (length-append v (drop 7 rest)) ∙ ap length whole in
-      rw (itself t, le-ltb 1024 (length v) (omega (arith, reading.bounded)))
+      rw (toggle_itself t, le-ltb 1024 (length v) (omega (arith, reading.bounded)))
       (next_request (other t) v (drop 7 rest) whole reading.allowed (simp length-drop (omega arith)) reading.bounded (omega (arith, reading.asked)))
 
   -- the last one has come
@@ -182,7 +179,7 @@ module _ {d : List Entry} {M : master.State} {nb : ℕ} {lost : Bool} where
       let v = M.value ++ rest in
       let size : length v ≡ length M.value + length rest = length-append M.value rest in
       let whole : length v ≡ length (value_at d M.multiplexor) = ap length reading.whole in
-      rw (itself t, le-ltb 1024 (length v) (omega (arith, reading.bounded)), le-ltb (length v) 1 (omega (arith, reading.some)), eq-eqb _ _ (sym whole))
+      rw (toggle_itself t, le-ltb 1024 (length v) (omega (arith, reading.bounded)), le-ltb (length v) 1 (omega (arith, reading.some)), eq-eqb _ _ (sym whole))
       (has_read v reading.whole reading.allowed)
 
   -- a read has started
@@ -195,10 +192,10 @@ module _ {d : List Entry} {M : master.State} {nb : ℕ} {lost : Bool} where
 heard_as : {d : List Entry} {M : master.State} {nb : ℕ} {dir : Direction} {w : Awaiting} {t : Transfer} {ahead lost : Bool} {a : Answer} → Replies d M nb dir w t ahead lost a → HeardAs d M nb dir t ahead lost (answered M w a)
 heard_as (exchange.refuses dir w lost c is proper) = refused dir c is
 heard_as (exchange.sets_at_once lost free) = rw same_itself (has_written free)
-heard_as (exchange.sets_segments lost t k last free) = rw (itself t, last) (has_written free)
+heard_as (exchange.sets_segments lost t k last free) = rw (toggle_itself t, last) (has_written free)
 heard_as (exchange.sets_block lost free) = has_written free
 heard_as (exchange.starts lost fine) = rw same_itself (next_segment Zero 0 fine fine.some)
-heard_as (exchange.takes lost t j fine more) = rw (itself t, lt-leb _ _ more) (next_segment (other t) (j + 1) fine more)
+heard_as (exchange.takes lost t j fine more) = rw (toggle_itself t, lt-leb _ _ more) (next_segment (other t) (j + 1) fine more)
 heard_as (exchange.gives_at_once lost free some few) = rw same_itself (has_read _ refl free)
 heard_as (exchange.announces lost nothing unasked reading) = came_size reading unasked
 heard_as (exchange.gives lost t rest reading more) = came t rest reading more

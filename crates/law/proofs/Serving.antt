@@ -34,7 +34,7 @@ use Rattle.law.proofs.Exchange.{order_start, verdict, Orderly, Reading, Ready, a
 use Rattle.law.proofs.Judging.{verdict_proper, value_bounded}
 use Rattle.law.proofs.Outcomes.{Served}
 
-toggle_itself : (t : Toggle) → same_toggle t t ≡ true
+pub toggle_itself : (t : Toggle) → same_toggle t t ≡ true
 toggle_itself Zero = refl
 toggle_itself One = refl
 

@@ -3,8 +3,6 @@ use Rattle.std.specs.Prelude.{ℕ, ◌+◌, ◌-◌, ◌*◌, ◌/◌, Bool, tru
 use Rattle.crc.specs.Registers.{crc}
 use Rattle.sdo.specs.declared.crc_offer.CrcOffer.{CrcOffer}
 use Rattle.sdo.specs.declared.crc_offer.CrcOffer.TheVariants.{Offered, NotOffered}
-use Rattle.sdo.specs.declared.toggle.Toggle.{Toggle}
-use Rattle.sdo.specs.declared.toggle.Toggle.TheVariants.{Zero, One}
 
 -- how many segments a value has, and how many bytes of the last one are not of the value
 abbrev pub segments : List ℕ → ℕ
@@ -39,9 +37,3 @@ is_block_size n = nat_le 1 n && nat_le n 127
 abbrev pub closing_crc : CrcOffer → List ℕ → ℕ
 closing_crc Offered v = crc v
 closing_crc NotOffered v = 0
-
-abbrev pub same_toggle : Toggle → Toggle → Bool
-same_toggle Zero Zero = true
-same_toggle Zero One = false
-same_toggle One Zero = false
-same_toggle One One = true
