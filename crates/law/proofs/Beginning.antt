@@ -21,13 +21,14 @@ use Rattle.master.specs.Values.{is_length}
 use Rattle.master.specs.Calls as order
 use Rattle.master.specs.Calls.{Order, Started, not_cleared, free, fits_start, write_start, start, first_awaited, ordered, opened, starting, begin_if, begin}
 use Rattle.master.specs.Runs as calls
+use Rattle.master.specs.Runs.{started_frames}
 use Rattle.node.specs.States as node
 use Rattle.node.specs.States.{Transfer, is_idle}
 use Rattle.report.specs.declared.direction.Direction.{Direction}
 use Rattle.report.specs.declared.direction.Direction.TheVariants as way
 use Rattle.law.specs.States.{State}
 use Rattle.law.specs.Lines.{first_lost}
-use Rattle.law.specs.Calls.{direction_of, ticket_number, start_frames, begun_as, begin_step}
+use Rattle.law.specs.Calls.{direction_of, ticket_number, begun_as, begin_step}
 use Rattle.law.specs.Runs.{Begin, Calls}
 use Rattle.law.specs.Books.{Note, value_in, set_if}
 use Rattle.law.specs.Watches.{Watch}
@@ -180,7 +181,7 @@ refused a l m o e s inv = still a (record { call = Begin m o (Err e); lost = l; 
 
 -- either way
 by_refusal : (a : Account) (l : Bool) (m : Multiplexor) (o : Order) (s t : State) (x : Result (Unit {0}) BeginRefusal) (y : Result Request BeginRefusal) (r : Result ℕ BeginRefusal) (fs : List Frame) (ls : List Bool) → Inv a s → Indexed m → free s.master ≡ x → start m o ≡ y
-    → r ≡ ticket_number (begin_if x y s.master m o).answer → fs ≡ start_frames (begin_if x y s.master m o).answer
+    → r ≡ ticket_number (begin_if x y s.master m o).answer → fs ≡ started_frames (begin_if x y s.master m o).answer
     → t ≡ begun_as (begin_if x y s.master m o).answer (begin_if x y s.master m o).next (direction_of o) ls s
     → Goes a (record { call = Begin m o r; lost = l; sent = fs }) t
 by_refusal a l m o s t (Err e) y r fs ls inv own clear fits is sends leaves = rw (is, sends, leaves) (refused a l m o e s inv)

@@ -13,7 +13,8 @@ use Rattle.master.specs.States as master
 use Rattle.master.specs.States.{ending_in, clear}
 use Rattle.master.specs.Steps.{Step as Hearing, hear}
 use Rattle.master.specs.Calls as order
-use Rattle.master.specs.Calls.{Order, Started, Beginning, Parting, begin, tick as tick_master, give_up}
+use Rattle.master.specs.Calls.{Order, Started, Parting, begin, tick as tick_master, give_up}
+use Rattle.master.specs.Runs.{started_frames}
 use Rattle.node.specs.declared.served.Served.{Served}
 use Rattle.node.specs.Nodes.{dictionary_by, state_after, tick as tick_node}
 use Rattle.node.specs.Steps.{Step, step}
@@ -47,12 +48,8 @@ begun_as (Err e) t w ls s = s
 unfoldable pub begin_step : Multiplexor → Order → List Bool → State → State
 begin_step m o ls s = begun_as (begin s.master m o).answer (begin s.master m o).next (direction_of o) ls s
 
-abbrev pub start_frames : Result Started BeginRefusal → List Frame
-start_frames (Ok x) = x.sending.frames
-start_frames (Err e) = []
-
 abbrev pub begin_frames : Multiplexor → Order → State → List Frame
-begin_frames m o s = start_frames (begin s.master m o).answer
+begin_frames m o s = started_frames (begin s.master m o).answer
 
 -- Serve: the node takes one frame, and what it sends goes on the line.
 
