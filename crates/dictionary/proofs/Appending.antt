@@ -1,5 +1,5 @@
 -- A row laid behind all others: the rows stay laid, and the dictionary has one entry more at its end.
-use Rattle.std.proofs.Common.{◌≡◌, ℕ, ◌+◌, ◌<◌, ◌≤◌, true, not, ltb, leb, List, [], ◌∷◌, ◌++◌, length, take, drop, Some, None, sym, refl, ap, ◌∙◌, arith, length-append, take_all}
+use Rattle.std.proofs.Common.{◌≡◌, ℕ, ◌+◌, ◌<◌, ◌≤◌, true, not, ltb, leb, List, [], ◌∷◌, ◌++◌, length, take, drop, None, sym, refl, ap, ◌∙◌, arith, length-append, take_all}
 use Rattle.std.proofs.lemmas.List.{drop_at, take_at}
 use Rattle.std.proofs.lemmas.Bool.{and_parts, and_from, eq-eqb, eqb-true, leb-false, ltb-false, not-false}
 use Rattle.wire.specs.declared.multiplexor.Multiplexor.{Multiplexor}
@@ -16,12 +16,6 @@ use Rattle.dictionary.proofs.Laying.{entries_below}
 use Rattle.dictionary.proofs.Lengths.{fits-longest, lawful_fits, lawful-bounded}
 use Rattle.dictionary.proofs.Presence.{passed}
 use Rattle.dictionary.proofs.TableFacts.{table_length, table_needed}
-
--- the last of a list with one more
-last_push : (d : List Entry) (e : Entry) → last_at (d ++ e ∷ []) ≡ Some e.at
-last_push [] e = refl
-last_push (f ∷ []) e = refl
-last_push (f ∷ g ∷ gs) e = last_push (g ∷ gs) e
 
 module _ (bytes : List ℕ) where
   entries_push : (rows : List Row) (r : Row) → entries bytes (rows ++ r ∷ []) ≡ entries bytes rows ++ entry bytes r ∷ []

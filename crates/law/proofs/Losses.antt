@@ -4,23 +4,14 @@ use Rattle.std.proofs.lemmas.Bool.{true_from_ne_false}
 use Rattle.std.proofs.lemmas.List.{append-nil}
 use Rattle.wire.specs.declared.frame.Frame.{Frame}
 use Rattle.wire.specs.declared.node_number.NodeNumber.{NodeNumber}
-use Rattle.line.specs.declared.end.End.{End}
 use Rattle.line.specs.declared.end.End.TheVariants.{Node}
-use Rattle.line.specs.Meanings.{Meaning, waiting, with_waiting, sent, quieted, following}
+use Rattle.line.specs.Meanings.{Meaning, sent, quieted, following}
 use Rattle.master.specs.declared.phase.SubBlock.{SubBlock}
 use Rattle.master.specs.Sendings.{block_segment, sub_block_from, sub_block_of}
 use Rattle.master.specs.States as master
 use Rattle.node.specs.States.{Transfer}
 use Rattle.law.specs.Lines.{first_lost, sent_all, carried}
 use Rattle.law.proofs.Exchange.{Rising, numbers, BlockAsks}
-
--- one frame waits behind all others, or is lost
-pub sent_either : (to : End) (f : Frame) (lost : Bool) (m : Meaning) → (sent to f lost m ≡ with_waiting to (waiting to m ++ f ∷ []) m) ⊎ (sent to f lost m ≡ record m { lost = true })
-sent_either to f true m = inr refl
-sent_either to f false m = inl refl
-
-pub sent_one : (f : Frame) (ls : List Bool) (m : Meaning) → (sent_all Node (f ∷ []) ls m ≡ with_waiting Node (m.to_node ++ f ∷ []) m) ⊎ (sent_all Node (f ∷ []) ls m ≡ record m { lost = true })
-sent_one f ls m = sent_either Node f (first_lost ls) m
 
 -- at most one frame waits, for the node
 abbrev pub AtMost : Frame → Meaning → Type 0
