@@ -1,4 +1,5 @@
 pub mod Appending
+pub mod Bounds
 pub mod Deciding
 pub mod Finding
 pub mod Laying

@@ -60,6 +60,10 @@ NextNone = (d : List Entry) (m : Multiplexor) → next_above d m ≡ None → (k
 abbrev pub OneEntry : Type 0
 OneEntry = (d : List Entry) → Lawful d → All (λ (e : Entry). entry_at e.at d ≡ Some e) d
 
+-- no value has more than 1,024 bytes, so that a buffer of so many has room for each
+abbrev pub ValueBounded : Type 0
+ValueBounded = (d : List Entry) (m : Multiplexor) → Lawful d → length (value_at d m) ≤ 1024
+
 -- an entry is there and may be read
 pub record CanRead (d : List Entry) (m : Multiplexor) : Type 0 where
   pub entry : Entry

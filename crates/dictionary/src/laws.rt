@@ -1,6 +1,6 @@
 //! What follows for every dictionary from what its answers are defined to be.
 ghost use Rattle.dictionary.specs.Laws.{ValueSet, RefusedKept, OthersKept, OrderKept, AttributesKept, LawfulKept};
-ghost use Rattle.dictionary.specs.Laws.{NextFound, NextNone, OneEntry, ReadDecided, WriteDecided, StartDecided};
+ghost use Rattle.dictionary.specs.Laws.{NextFound, NextNone, OneEntry, ValueBounded, ReadDecided, WriteDecided, StartDecided};
 
 /// The laws that hold of every dictionary, whatever implements it. It does nothing; its contract states them.
 pub fn dictionary_laws()
@@ -13,6 +13,7 @@ pub fn dictionary_laws()
     ensures next_found { NextFound }
     ensures next_none { NextNone }
     ensures one_entry { OneEntry }
+    ensures value_bounded { ValueBounded }
     ensures read_decided { ReadDecided }
     ensures write_decided { WriteDecided }
     ensures start_decided { StartDecided }

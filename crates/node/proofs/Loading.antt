@@ -1,33 +1,22 @@
 -- What a dictionary's answer to a value copy tells of its verdict on the read, and that a value fits a buffer.
-use Rattle.std.proofs.Common.{◌≡◌, ℕ, ◌≤◌, Bool, true, false, cond, ltb, List, [], ◌∷◌, length, Some, None, Ok, Err, Option, Result, refl, subst, arith, ltb-true}
+use Rattle.std.proofs.Common.{◌≡◌, ℕ, ◌≤◌, Bool, true, false, cond, ltb, List, length, Some, None, Ok, Err, Option, Result, refl, subst, arith, ltb-true}
 use Rattle.wire.specs.declared.multiplexor.Multiplexor.{Multiplexor}
 use Rattle.wire.specs.declared.abort_code.AbortCode.{AbortCode}
-use Rattle.wire.specs.Multiplexors.{same}
 use Rattle.dictionary.specs.declared.refusal.CopyRefusal.{CopyRefusal}
 use Rattle.dictionary.specs.declared.refusal.CopyRefusal.TheVariants.{Verdict, ShortBuffer}
-use Rattle.dictionary.specs.Entries.{Entry, Lawful, entry_at}
+use Rattle.dictionary.specs.Entries.{Entry, Lawful}
 use Rattle.dictionary.specs.Verdicts.{read_verdict}
 use Rattle.std.specs.Result.{MatchResult, IsErrAnd}
 use Rattle.std.proofs.lemmas.Result.{err_from_is_err_and}
 use Rattle.node.specs.Buffers.{code_of}
-use Rattle.dictionary.specs.Questions.{value_of, value_at, copy_refusal, refuses_copy, copied_or, copied}
+use Rattle.dictionary.specs.Questions.{value_at, copy_refusal, refuses_copy, copied_or, copied}
+use Rattle.dictionary.proofs.Bounds.{value_bounded}
 
 copied_some : (r : Option CopyRefusal) (x : CopyRefusal) (len : ℕ) → Err x ≡ copied_or r len → r ≡ Some x
 copied_some None x len e = cc
 copied_some (Some y) x len e = cc
 
--- every value of a dictionary has at most 1,024 bytes
-short_by : (t : Bool) (e : Entry) (o : Option Entry) → length e.value ≤ 1024 → length (value_of o) ≤ 1024 → length (value_of (cond t (Some e) o)) ≤ 1024
-short_by true e o h k = h
-short_by false e o h k = k
-
-short : (m : Multiplexor) (d : List Entry) → Lawful d → length (value_at d m) ≤ 1024
-short m [] law = omega arith
-short m (e ∷ es) law =
-    let own : length e.value ≤ 1024 = omega (arith, law.0.short_enough, law.0.bounded) in
-    short_by (same e.at m) e (entry_at m es) own (short m es law.2)
-
--- so that a buffer of 1,029 is never too short for one
+-- a buffer of 1,029 is never too short for a value of at most 1,024 bytes
 roomy : (t : Bool) (n : ℕ) → n ≤ 1024 → ltb 1029 n ≡ t → cond {A = Option CopyRefusal} t (Some ShortBuffer) None ≡ Some ShortBuffer → ⊥
 roomy true n h long e = omega (arith, ltb-true 1029 n long)
 roomy false n h long e = cc
@@ -55,5 +44,5 @@ module _ (d : List Entry) (m : Multiplexor) where
   read-refused k (Verdict c) size law e =
       refused_by (read_verdict d m) k (length (value_at d m)) c (copied_some (refuses_copy d m k) (Verdict c) (length (value_at d m)) e)
   read-refused k ShortBuffer size law e =
-      absurd (fits_by (read_verdict d m) (length (value_at d m)) (short m d law)
+      absurd (fits_by (read_verdict d m) (length (value_at d m)) (value_bounded d m law)
       (copied_some (refuses_copy d m 1029) ShortBuffer (length (value_at d m)) (subst (λ (n : ℕ). Err ShortBuffer ≡ copied d m n) size e)))
