@@ -2,7 +2,7 @@
 ghost use Rattle.dictionary.specs.Laws.{ValueSet, RefusedKept, OthersKept, OrderKept, AttributesKept, LawfulKept};
 ghost use Rattle.dictionary.specs.Laws.{NextFound, NextNone, OneEntry, ValueBounded, ReadDecided, WriteDecided, StartDecided};
 
-/// The laws that hold of every dictionary, whatever implements it. It does nothing; its contract states them.
+/// States the laws that hold of every dictionary, whatever implements it.
 pub fn dictionary_laws()
     ensures value_set { ValueSet }
     ensures refused_kept { RefusedKept }

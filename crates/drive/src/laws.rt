@@ -1,7 +1,7 @@
 //! What follows for every drive from what its entries are defined to be.
 ghost use Rattle.drive.specs.Laws.{ModeTaken, AccelerationTaken, ModeSet, AccelerationSet};
 
-/// Which values a drive takes, and that it then holds the number that was written. It does nothing; its contract states them.
+/// States which values a drive takes, and that it then holds the number that was written.
 pub fn drive_laws()
     ensures mode_taken { ModeTaken }
     ensures acceleration_taken { AccelerationTaken }

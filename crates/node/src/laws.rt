@@ -1,9 +1,9 @@
 //! What follows for every node from what its steps and ticks are defined to be.
 ghost use Rattle.node.specs.Laws.{CommitsTold, OthersLeave, TicksLeave, AbortsLeaveIdle, ForeignDropped, StartsReplace, AbortsHeard, OthersRefused, UnknownRefused, BlockAborted, BlockStays};
-ghost use Rattle.node.specs.Runs.{OneAtMost, ValuesCarried, TogglesAlternate};
 ghost use Rattle.node.specs.Laws.{FramesRestart, NoneChangesNothing, TimeRunsOut};
+ghost use Rattle.node.specs.Runs.{OneAtMost, ValuesCarried, TogglesAlternate};
 
-/// Only a commit changes the dictionary, it is told and counted, a transfer has one at most, and its value is what the transfer carried, with toggles in turn, of the announced size and with the given CRC. It does nothing; its contract states the laws.
+/// States that only a commit changes the dictionary, that it is told and counted, that a transfer has one at most, and that its value is what the transfer carried, with toggles in turn, of the announced size and with the given CRC.
 pub fn commit_laws()
     ensures commits_told { CommitsTold }
     ensures others_leave { OthersLeave }
@@ -13,7 +13,7 @@ pub fn commit_laws()
     ensures toggles_alternate { TogglesAlternate }
 {}
 
-/// What a node makes of starts, aborts and all that it does not await. It does nothing; its contract states the laws.
+/// States what a node makes of starts, aborts and all that it does not await.
 pub fn answer_laws()
     ensures aborts_leave_idle { AbortsLeaveIdle }
     ensures foreign_dropped { ForeignDropped }
@@ -25,7 +25,7 @@ pub fn answer_laws()
     ensures block_stays { BlockStays }
 {}
 
-/// When a node's time runs out. It does nothing; its contract states the laws.
+/// States when a node's time runs out.
 pub fn time_laws()
     ensures frames_restart { FramesRestart }
     ensures none_changes_nothing { NoneChangesNothing }
