@@ -19,7 +19,7 @@ use Rattle.master.specs.declared.refusal.BeginRefusal.TheVariants.{NotCleared, R
 use Rattle.master.specs.States as master
 use Rattle.master.specs.Values.{is_length}
 use Rattle.master.specs.Calls as order
-use Rattle.master.specs.Calls.{Order, Started, not_cleared, free, fits_start, write_start, start, first_awaited, ordered, opened, starting, begin_if, begin}
+use Rattle.master.specs.Calls.{Order, not_cleared, free, fits_start, write_start, start, first_awaited, ordered, opened, starting, begin_if, begin}
 use Rattle.master.specs.Runs as calls
 use Rattle.master.specs.Runs.{started_frames}
 use Rattle.node.specs.States as node

@@ -11,7 +11,7 @@ use Rattle.wire.specs.Transfers.{Segmented}
 use Rattle.sdo.specs.declared.crc_offer.CrcOffer.{CrcOffer}
 use Rattle.sdo.specs.declared.crc_offer.CrcOffer.TheVariants.{Offered}
 use Rattle.sdo.specs.declared.toggle.Toggle.{Toggle}
-use Rattle.sdo.specs.declared.toggle.Toggle.TheVariants.{Zero, One}
+use Rattle.sdo.specs.declared.toggle.Toggle.TheVariants.{Zero}
 use Rattle.sdo.specs.Segments.{other}
 use Rattle.sdo.specs.Answers.{Answer}
 use Rattle.sdo.specs.Frames.{answer_frame}

@@ -7,7 +7,6 @@ use Rattle.wire.specs.declared.multiplexor.Multiplexor.{Multiplexor}
 use Rattle.wire.specs.declared.abort_code.AbortCode.{AbortCode}
 use Rattle.wire.specs.declared.node_number.NodeNumber.{NodeNumber}
 use Rattle.wire.specs.Fields.{abort_bytes}
-use Rattle.sdo.specs.Requests.{Request}
 use Rattle.sdo.specs.Requests as request
 use Rattle.sdo.specs.Answers.{Answer}
 use Rattle.sdo.specs.Frames.{request_frame, answer_frame}
@@ -20,7 +19,7 @@ use Rattle.master.specs.Sendings.{block_segment}
 use Rattle.master.specs.States as master
 use Rattle.node.specs.declared.served.Served as declared
 use Rattle.node.specs.States as node
-use Rattle.node.specs.States.{Transfer, Idle, is_idle}
+use Rattle.node.specs.States.{Transfer, Idle}
 use Rattle.node.specs.Steps.{Step, step, heard}
 use Rattle.node.specs.Nodes.{dictionary_by, commits_by, stepped}
 use Rattle.report.specs.declared.direction.Direction.{Direction}

@@ -1,6 +1,6 @@
 -- How a transfer that has ended is reported. A write that has failed is Undecided where the frame was sent after which a
 -- node sets the value, unless the node itself said no; otherwise it is Unwritten.
-use Rattle.std.specs.Prelude.{ℕ, Bool, true, false, cond, Ok, Err, Result}
+use Rattle.std.specs.Prelude.{ℕ, Bool, cond, Ok, Err, Result}
 use Rattle.wire.specs.declared.multiplexor.Multiplexor.{Multiplexor}
 use Rattle.wire.specs.declared.abort_code.AbortCode.{AbortCode}
 use Rattle.wire.specs.AbortCodes.{number}
