@@ -85,20 +85,20 @@ writes_on = record { same = same_order (λ _. refl); phase = refl; ticks = refl;
 module _ {d : List Entry} {M : master.State} {nb : ℕ} {lost : Bool} where
   -- a write has succeeded, or a read
   has_written : write_verdict d M.multiplexor M.value ≡ None → HeardAs d M nb way.Download Idle true lost (done M M.value)
-  has_written free = over (Ok tt) refl (same_order (λ _. refl)) refl (outcome.written free) (λ _. sym free) (outcome.done refl refl refl)
+  has_written free = over (Ok tt) refl (same_order (λ _. refl)) refl (outcome.written free) (λ _. free) (outcome.done refl refl refl)
 
   has_read : (v : List ℕ) → v ≡ value_at d M.multiplexor → read_verdict d M.multiplexor ≡ None → HeardAs d M nb way.Upload Idle false lost (done M v)
-  has_read v is free = over (Ok tt) refl (same_order (λ e. cc)) refl (outcome.read free (readable d M.multiplexor free) is) (λ _. sym free) (outcome.done refl refl refl)
+  has_read v is free = over (Ok tt) refl (same_order (λ e. cc)) refl (outcome.read free (readable d M.multiplexor free) is) (λ _. free) (outcome.done refl refl refl)
 
   -- the node has refused
   refused : (dir : Direction) (c : AbortCode) → verdict dir d M ≡ Some c → HeardAs d M nb dir Idle false lost (told M c)
   unfolding told
-  refused dir c is = over _ refl (same_order (λ _. refl)) refl (outcome.failed dir false _ (λ e. cc)) (λ _. sym is) (outcome.told refl refl)
+  refused dir c is = over _ refl (same_order (λ _. refl)) refl (outcome.failed dir false _ (λ e. cc)) (λ _. (is, refl)) (outcome.told refl refl)
 
   -- too few segments were kept too often
   given_up : (x : SubBlock) (t : Transfer) → lost ≡ true → HeardAs d M nb way.Download t false lost (found M (awaiting.BlockDownload x) InvalidSequenceNumber)
   unfolding found parting
-  given_up x t is = over _ refl (same_order (λ _. refl)) refl (outcome.failed way.Download false _ (λ e. cc)) (λ e. cc) (outcome.found M.multiplexor InvalidSequenceNumber refl refl)
+  given_up x t is = over _ refl (same_order (λ _. refl)) refl (outcome.failed way.Download false _ (λ e. cc)) (λ e. absurd cc) (outcome.found M.multiplexor InvalidSequenceNumber refl refl)
 
   -- a write goes on with its next segment, with its end or with a sub-block
   next_segment : (t : Toggle) (j : ℕ) → Orderly M → 7 * j < length M.value → HeardAs d M nb way.Download (node.Download (order_start M) t (take (7 * j) M.value)) false lost (send_segment M t (j + 1))

@@ -32,7 +32,7 @@ use Rattle.law.specs.Runs.{Hear, Event, Calls}
 use Rattle.law.specs.Watches.{Watch, heard as watch_heard}
 use Rattle.law.specs.Law.{Account, told as then}
 use Rattle.law.proofs.Exchange.{numbers, Ready, at_once, in_segments, by_block, one_more, closing, to_read, asking, Flight, asks, asks_block, answered, silent, BlockAsks, Waited}
-use Rattle.law.proofs.Outcomes.{SameOrder, Sends, Leaves, done, told, found, HeardAs, asks_on, sends_block, over as ends}
+use Rattle.law.proofs.Outcomes.{SameOrder, Sends, EndsBy, Leaves, done, told, found, HeardAs, asks_on, sends_block, over as ends}
 use Rattle.law.proofs.Invariant.{Inv, Calm, Stage, flies, over as is_over, Counted, few, of_read, of_write, note_of}
 use Rattle.law.proofs.Losses.{Arrives, sent_alone, sub_block_arrives, none_arrives, still_asks}
 use Rattle.law.proofs.Hearing.{hear_reply}
@@ -213,7 +213,7 @@ module _ (a : Account) (s : State) (k : Bool) (u : Awaiting) (f : Frame) (ls : L
       let calm = calm_left bench_now s.master heard_now (record s.line { to_master = [] }) ls refl same.node low there refl leaves in
       let known : watch_now.lost_before_over ≡ Some s.line.lost = rw (is, up.watched) refl in
       heard_inv same
-      (is_over e k phase calm (rw is refl) (rw is up.before) ended (λ clear. judged (cc) ∙ sym (same_verdict a.book.dictionary s.direction s.master K same)))
+      (is_over e k phase calm (rw is refl) (rw is up.before) ended (λ clear. subst (EndsBy e) (sym (same_verdict a.book.dictionary s.direction s.master K same)) (judged (cc))))
       (λ dir low_frames high. few (rw phase refl) (omega (arith, low_frames, high, few_left s.master heard_now s.node.transfer leaves)))
 
 -- what hear tells of a frame, or of none

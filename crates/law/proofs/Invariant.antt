@@ -24,7 +24,7 @@ use Rattle.law.specs.Books.{Note, set_if}
 use Rattle.law.specs.Watches.{Watch}
 use Rattle.law.specs.Law.{Account}
 use Rattle.law.proofs.Exchange.{verdict, Flight}
-use Rattle.law.proofs.Outcomes.{Ended, code_of}
+use Rattle.law.proofs.Outcomes.{Ended, EndsBy}
 
 -- the note of the transfer that a master has begun
 abbrev pub noted_value : Direction → master.State → Option (List ℕ)
@@ -51,7 +51,7 @@ pub record Calm (s : State) : Type 0 where
 pub data Stage (d : List Entry) (s : State) (w : Watch) : Option Note → Bool → Type 0 where
   rests : s.master.phase ≡ Idle → Calm s → w.is_open ≡ false → Stage d s w None false
   flies : (u : Awaiting) (ahead : Bool) → s.master.phase ≡ Open u → s.master.ticks ≤ 9 → w.is_open ≡ true → w.ticks ≡ s.master.ticks → w.before ≡ d → w.lost_before_over ≡ None → Flight d s u ahead → Stage d s w (Some (note_of s.direction s.master)) ahead
-  over : (e : Result (Unit {0}) Failure) (ahead : Bool) → s.master.phase ≡ Over e → Calm s → w.is_open ≡ false → w.before ≡ d → Ended d s.master s.direction ahead e → (w.lost_before_over ≡ Some false → code_of e ≡ verdict s.direction d s.master) → Stage d s w (Some (note_of s.direction s.master)) ahead
+  over : (e : Result (Unit {0}) Failure) (ahead : Bool) → s.master.phase ≡ Over e → Calm s → w.is_open ≡ false → w.before ≡ d → Ended d s.master s.direction ahead e → (w.lost_before_over ≡ Some false → EndsBy e (verdict s.direction d s.master)) → Stage d s w (Some (note_of s.direction s.master)) ahead
 
 -- the frames that the master has sent in its latest transfer: those of a write by its run since the begin, and few of a read
 pub data Counted (frames : ℕ) (dir : Direction) (M : master.State) : Type 0 where

@@ -59,10 +59,10 @@ pub data Ended (d : List Entry) (K : master.State) : Direction → Bool → Resu
   read : verdict way.Upload d K ≡ None → There d K.multiplexor → K.value ≡ value_at d K.multiplexor → Ended d K way.Upload false (Ok tt)
   failed : (dir : Direction) (ahead : Bool) (f : Failure) → (ahead ≡ true → (f.may_be_set ≡ true) × (dir ≡ way.Download)) → Ended d K dir ahead (Err f)
 
--- the code of an ending; none for a success
-abbrev pub code_of : Result (Unit {0}) Failure → Option AbortCode
-code_of (Ok x) = None
-code_of (Err f) = Some f.code
+-- an ending is that of a verdict, or of none: a success, or a failure without doubt by its code
+abbrev pub EndsBy : Result (Unit {0}) Failure → Option AbortCode → Type 0
+EndsBy (Ok x) v = v ≡ None
+EndsBy (Err f) v = (v ≡ Some f.code) × (f.may_be_set ≡ false)
 
 -- what a master that is done leaves: no frame, or at most its abort on a quieted line; and the node is idle, or the master rests for 30 ticks
 pub data Leaves (M : master.State) (p : hearing.Step) (t : Transfer) : Type 0 where
@@ -79,4 +79,4 @@ numbers_of x = numbers 0 x.count
 pub data HeardAs (d : List Entry) (M : master.State) (nb : ℕ) (dir : Direction) (t : Transfer) (ahead lost : Bool) (p : hearing.Step) : Type 0 where
   asks_on : (w : Awaiting) (q : Request) → p.heard ≡ heard.Sent → ahead ≡ false → Sends dir M p.next w → p.sending ≡ record { quiet = false; frames = request_frame p.next.node q ∷ [] } → Ready d p.next dir w t q → HeardAs d M nb dir t ahead lost p
   sends_block : (x : SubBlock) → p.heard ≡ heard.Sent → ahead ≡ false → dir ≡ way.Download → Sends dir M p.next (awaiting.BlockDownload x) → p.sending ≡ record { quiet = false; frames = sub_block_of p.next.node p.next.value x.acknowledged x.count } → BlockAsks p.next nb x t false (numbers_of x) → HeardAs d M nb dir t ahead lost p
-  over : (e : Result (Unit {0}) Failure) → p.heard ≡ heard.Over → SameOrder dir M p.next → p.next.phase ≡ Over e → Ended d p.next dir ahead e → (lost ≡ false → code_of e ≡ verdict dir d M) → Leaves M p t → HeardAs d M nb dir t ahead lost p
+  over : (e : Result (Unit {0}) Failure) → p.heard ≡ heard.Over → SameOrder dir M p.next → p.next.phase ≡ Over e → Ended d p.next dir ahead e → (lost ≡ false → EndsBy e (verdict dir d M)) → Leaves M p t → HeardAs d M nb dir t ahead lost p

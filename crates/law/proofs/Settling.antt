@@ -1,10 +1,11 @@
 -- Settling a ticket: an open transfer is given up, and what became of it is told, entered and forgotten.
 use Rattle.std.proofs.Common.{◌≡◌, ℕ, ◌+◌, ◌≤◌, Bool, true, false, eqb, ltb, List, [], length, drop, Some, None, Ok, Err, Option, Result, option_map, sym, refl, ap, ◌∙◌, subst, inl, inr, arith, add-zero}
 use Rattle.std.proofs.lemmas.Bool.{cond_both, false_from_ne_true}
-use Rattle.std.proofs.Math.Seq.{take-append_seam}
+use Rattle.std.proofs.Math.Seq.{take-append_seam, drop-append_seam}
 use Rattle.wire.specs.declared.frame.Frame.{Frame}
 use Rattle.wire.specs.Fits.{Indexed}
 use Rattle.wire.specs.declared.multiplexor.Multiplexor.{Multiplexor}
+use Rattle.wire.specs.declared.abort_code.AbortCode.{AbortCode}
 use Rattle.wire.specs.declared.abort_code.AbortCode.TheVariants.{GeneralError}
 use Rattle.dictionary.specs.Entries.{Entry, Lawful, put}
 use Rattle.dictionary.specs.Commits.{set_unless}
@@ -35,9 +36,9 @@ use Rattle.law.specs.Calls.{report_out, settled, filled, settled_by, settle_step
 use Rattle.law.specs.Runs.{Settle, Calls}
 use Rattle.law.specs.Books.{Note, Book, with_value, with_note, tells_set, set_if, dropping, SetsThere}
 use Rattle.law.specs.Watches.{Watch, counting, ended}
-use Rattle.law.specs.Law.{Account, GivenBy, code_in, verdict_on, Judged}
+use Rattle.law.specs.Law.{Account, GivenBy, TellsVerdict, verdict_on, Judged}
 use Rattle.law.proofs.Exchange.{verdict}
-use Rattle.law.proofs.Outcomes.{SameOrder, Ended, written, read, failed, code_of}
+use Rattle.law.proofs.Outcomes.{SameOrder, Ended, written, read, failed, EndsBy}
 use Rattle.law.proofs.Invariant.{note_of, one_if_noted, Calm, Stage, rests, flies, over, Counted, Inv}
 use Rattle.law.proofs.Parting.{flight_ahead, flight_waited}
 use Rattle.law.proofs.Going.{Goes, goes, Passes, silently, lastly, counted_past, counting_none, can_be_set, parted_line}
@@ -67,24 +68,24 @@ tells_ahead m n (failed way.Download ahead f may) =
     (λ _. refl)
     (λ no. sym (false_from_ne_true ahead (λ is. (let yes = (may is).0 in cc))))
 
-code_told : (dir : Direction) (m : Multiplexor) (e : Result (Unit {0}) Failure) (n : ℕ) → code_in (report_of dir m e n) ≡ code_of e
-code_told way.Upload m (Ok x) n = refl
-code_told way.Download m (Ok x) n = refl
-code_told way.Upload m (Err f) n = refl
-code_told way.Download m (Err f) n = cond_both f.may_be_set (Undecided (failure_of m f)) (Unwritten (failure_of m f)) (λ r. code_in r ≡ Some f.code) (λ _. refl) (λ _. refl)
+verdict_told : (dir : Direction) (m : Multiplexor) (e : Result (Unit {0}) Failure) (n : ℕ) (v : Option AbortCode) → EndsBy e v → TellsVerdict (report_of dir m e n) v
+verdict_told way.Upload m (Ok x) n v is = is
+verdict_told way.Download m (Ok x) n v is = is
+verdict_told way.Upload m (Err f) n v is = is.0
+verdict_told way.Download m (Err f) n v is = cond_both f.may_be_set (Undecided (failure_of m f)) (Unwritten (failure_of m f)) (λ r. TellsVerdict r v) (λ yes. (let no = is.1 in absurd cc)) (λ _. is.0)
 
 verdict_noted : (dir : Direction) (d : List Entry) (M : master.State) → verdict dir d M ≡ verdict_on (note_of dir M) d
 verdict_noted way.Upload d M = refl
 verdict_noted way.Download d M = refl
 
 -- the bytes of a read lie at the front of the buffer
-read_given : {M : master.State} {dir : Direction} {ahead : Bool} {e : Result (Unit {0}) Failure} (b : Book) (buffer : List ℕ) → Ended b.dictionary M dir ahead e → b.note ≡ Some (note_of dir M) → GivenBy (report_of dir M.multiplexor e (length M.value)) (filled (Ok (report_of dir M.multiplexor e (length M.value))) M.value buffer) b
-read_given b buffer (written free) noted = tt
+read_given : {M : master.State} {dir : Direction} {ahead : Bool} {e : Result (Unit {0}) Failure} (b : Book) (buffer : List ℕ) → Ended b.dictionary M dir ahead e → b.note ≡ Some (note_of dir M) → GivenBy (report_of dir M.multiplexor e (length M.value)) buffer (filled (Ok (report_of dir M.multiplexor e (length M.value))) M.value buffer) b
+read_given b buffer (written free) noted = refl
 read_given {M} b buffer (read free there whole) noted =
-    record { multiplexor = M.multiplexor; noted = noted; there = there; bytes = take-append_seam M.value (drop (length M.value) buffer) ∙ whole; number = ap length whole }
-read_given b buffer (failed way.Upload ahead f may) noted = tt
+    record { multiplexor = M.multiplexor; noted = noted; there = there; bytes = take-append_seam M.value (drop (length M.value) buffer) ∙ whole; behind = drop-append_seam M.value (drop (length M.value) buffer); number = ap length whole }
+read_given b buffer (failed way.Upload ahead f may) noted = refl
 read_given {M} b buffer (failed way.Download ahead f may) noted =
-    cond_both f.may_be_set (Undecided (failure_of M.multiplexor f)) (Unwritten (failure_of M.multiplexor f)) (λ r. GivenBy r (filled (Ok r) M.value buffer) b) (λ _. tt) (λ _. tt)
+    cond_both f.may_be_set (Undecided (failure_of M.multiplexor f)) (Unwritten (failure_of M.multiplexor f)) (λ r. GivenBy r buffer (filled (Ok r) M.value buffer) b) (λ _. refl) (λ _. refl)
 
 -- The book after a value was put, or none was.
 
@@ -132,7 +133,7 @@ record Parted (d : List Entry) (s : State) (w : Watch) (note : Option Note) (ahe
   noted : note ≡ Some (note_of s.direction s.master)
   before : w.before ≡ d
   ended : Ended d s.master s.direction ahead ending
-  judged : w.lost_before_over ≡ Some false → code_of ending ≡ verdict s.direction d s.master
+  judged : w.lost_before_over ≡ Some false → EndsBy ending (verdict s.direction d s.master)
   calm : Calm (settled_as_parted p ls s)
   cleared : (clear p.next).phase ≡ Idle
   order : SameOrder s.direction s.master (clear p.next)
@@ -149,7 +150,7 @@ parted {d} {s} {w} ls r out (flies u ahead phase ticks busy same_ticks before no
       noted = refl;
       before = before;
       ended = failed s.direction ahead _ (flight_ahead flight);
-      judged = λ sure. cc;
+      judged = λ sure. absurd cc;
       calm = record { waiting = parted_line GeneralError s.master ls s.line; idle_in_time = elim (flight_waited flight) [ inl idle ↦ inl idle | inr few ↦ inr (omega arith, omega arith) ] };
       cleared = refl;
       order = record { node = refl; begun = refl; multiplexor = refl; value = λ e. refl };
@@ -205,7 +206,9 @@ module _ (ls : List Bool) (a : Account) (s : State) (i : Inv a s) (p : Parted a.
   judged_right sure = record {
     note = note_of s.direction s.master;
     noted = p.noted;
-    verdict = code_told s.direction s.master.multiplexor p.ending (length s.master.value) ∙ p.judged sure ∙ verdict_noted s.direction a.book.dictionary s.master ∙ ap (verdict_on (note_of s.direction s.master)) (sym p.before);
+    verdict =
+        subst (TellsVerdict told_report) (verdict_noted s.direction a.book.dictionary s.master ∙ ap (verdict_on (note_of s.direction s.master)) (sym p.before))
+        (verdict_told s.direction s.master.multiplexor p.ending (length s.master.value) (verdict s.direction a.book.dictionary s.master) (p.judged sure));
   }
 
   accepted_goes : (k : ℕ) (buffer : List ℕ) (lost : Bool) → Goes a (record { call = Settle k buffer (Ok told_report) (filled (Ok told_report) s.master.value buffer); lost = lost; sent = sent_frames }) parted_bench
@@ -221,7 +224,7 @@ module _ (ls : List Bool) (a : Account) (s : State) (i : Inv a s) (p : Parted a.
 -- a refused ticket changes nothing
 refused_goes : (a : Account) (s : State) (k : ℕ) (buffer : List ℕ) (e : SettleRefusal) (lost : Bool) → Inv a s → Goes a (record { call = Settle k buffer (Err e) buffer; lost = lost; sent = [] }) s
 refused_goes a s k buffer e lost i =
-    goes a (record { call = Settle k buffer (Err e) buffer; lost = lost; sent = [] }) s false tt tt tt tt
+    goes a (record { call = Settle k buffer (Err e) buffer; lost = lost; sent = [] }) s false tt refl tt tt
     (subst (λ w. Inv (record { book = a.book; watch = w }) s) (sym (counting_none a.watch)) i)
 
 settle_kept : (ls : List Bool) (lost : Bool) (a : Account) (s : State) (k : ℕ) (buffer : List ℕ) {x : Result Report SettleRefusal} → Inv a s → SettledAs (report_out s) x → Goes a (record { call = Settle k buffer x (filled x s.master.value buffer); lost = lost; sent = parting_frames x (give_up s.master).sending.frames }) (settled_by x ls s)

@@ -33,7 +33,7 @@ use Rattle.law.specs.Books.{Note}
 use Rattle.law.specs.Watches.{Watch, counting, ticked}
 use Rattle.law.specs.Law.{Account}
 use Rattle.law.proofs.Exchange.{Orderly, Reading, Ready, at_once, in_segments, by_block, one_more, closing, to_read, asking, SubBlockSent, Replies, refuses, sets_at_once, sets_segments, sets_block, starts, takes, gives_at_once, announces, gives, gives_last, starts_block, keeps, keeps_all, BlockAsks, Waited, Flight, asks, asks_block, answered, silent}
-use Rattle.law.proofs.Outcomes.{SameOrder, Ended, written, read, failed}
+use Rattle.law.proofs.Outcomes.{SameOrder, Ended, written, read, failed, EndsBy}
 use Rattle.law.proofs.Invariant.{note_of, OnlyAbort, Calm, Stage, rests, flies, over, Counted, Inv}
 use Rattle.law.proofs.Parting.{flight_ahead, flight_waited}
 use Rattle.law.proofs.Going.{Goes, goes, same_verdict, Passes, silently, lastly, counted_past, renoted, Stays, inv_on, replied_to_node, parted_line}
@@ -228,7 +228,7 @@ module _ (ls : List Bool) (lost : Bool) (d : List Entry) (s : State) (w : Watch)
         idle_in_time = elim wait [ inl idle ↦ inl idle | inr early ↦ inr (omega arith, omega (arith, says.few)) ];
       } in
       record {
-        stage = renoted s.master same (over _ ahead refl calm refl before (failed s.direction ahead _ (flight_ahead flight)) (λ sure. cc));
+        stage = renoted s.master same (over _ ahead refl calm refl before (failed s.direction ahead _ (flight_ahead flight)) (λ sure. absurd cc));
         time = sym (due ∙ eq-eqb (s.master.ticks + 1) 10 (omega arith));
         order = same;
       }))
@@ -236,7 +236,7 @@ module _ (ls : List Bool) (lost : Bool) (d : List Entry) (s : State) (w : Watch)
       let same = counted_same s.direction s.master s.master.ticks (s.master.rest - 1) in
       subst (λ p. TicksTo own_note ahead p (nodes.tick s.node)) (sym (tick_shut s.master (ap is_open phase)))
       (record {
-        stage = renoted s.master same (over e ahead phase (calm_on ls lost s calm) shut before (ended_on _ _ ended) (λ sure. judged sure ∙ sym (same_verdict d s.direction s.master _ same)));
+        stage = renoted s.master same (over e ahead phase (calm_on ls lost s calm) shut before (ended_on _ _ ended) (λ sure. subst (EndsBy e) (sym (same_verdict d s.direction s.master _ same)) (judged sure)));
         time = shut_time w shut;
         order = same;
       })

@@ -1,5 +1,5 @@
 -- The law over every run of a bench, in the words of one who sees its calls and not its ends.
-use Rattle.std.specs.Prelude.{◌≡◌, ℕ, ◌+◌, ◌≤◌, Bool, false, ◌&&◌, List, [], ◌∷◌, ◌++◌, length, take, map, Some, None, Ok, Option, ◌==◌}
+use Rattle.std.specs.Prelude.{◌≡◌, ℕ, ◌+◌, ◌≤◌, Bool, false, ◌&&◌, List, [], ◌∷◌, ◌++◌, length, take, drop, map, Some, None, Ok, Err, Option, ◌==◌}
 use Rattle.wire.specs.declared.frame.Frame.{Frame}
 use Rattle.wire.specs.declared.multiplexor.Multiplexor.{Multiplexor}
 use Rattle.wire.specs.declared.abort_code.AbortCode.{AbortCode}
@@ -36,32 +36,35 @@ abbrev pub account : List Told → Account → Account
 account [] a = a
 account (t ∷ ts) a = account ts (told t a)
 
--- Each value that is set has its entry. Each Read gave the bytes that its entry held when it was settled.
+-- Each value that is set has its entry. Each Read gave the bytes that its entry held when it was settled, at the buffer's front;
+-- all that lies behind them, and the whole buffer where there is no Read, is as it was.
 
 abbrev pub Sets : Bool → Call → Book → Type 0
 Sets said (Settle k buffer (Ok r) after) b = SetsThere (tells_set said r) b
 Sets said c b = Unit {0}
 
-pub record Gives (n : ℕ) (buffer : List ℕ) (b : Book) : Type 0 where
+pub record Gives (n : ℕ) (buffer after : List ℕ) (b : Book) : Type 0 where
   pub multiplexor : Multiplexor
   pub noted : b.note ≡ Some (record { multiplexor = multiplexor; value = None })
   pub there : There b.dictionary multiplexor
-  pub bytes : take n buffer ≡ value_at b.dictionary multiplexor
+  pub bytes : take n after ≡ value_at b.dictionary multiplexor
+  pub behind : drop n after ≡ drop n buffer
   pub number : n ≡ length (value_at b.dictionary multiplexor)
 
-abbrev pub GivenBy : Report → List ℕ → Book → Type 0
-GivenBy Written after b = Unit {0}
-GivenBy (Read n) after b = Gives n after b
-GivenBy (Unwritten f) after b = Unit {0}
-GivenBy (Undecided f) after b = Unit {0}
-GivenBy (Unread f) after b = Unit {0}
+abbrev pub GivenBy : Report → List ℕ → List ℕ → Book → Type 0
+GivenBy Written buffer after b = after ≡ buffer
+GivenBy (Read n) buffer after b = Gives n buffer after b
+GivenBy (Unwritten f) buffer after b = after ≡ buffer
+GivenBy (Undecided f) buffer after b = after ≡ buffer
+GivenBy (Unread f) buffer after b = after ≡ buffer
 
 abbrev pub Reads : Call → Book → Type 0
-Reads (Settle k buffer (Ok r) after) b = GivenBy r after b
+Reads (Settle k buffer (Ok r) after) b = GivenBy r buffer after b
+Reads (Settle k buffer (Err e) after) b = after ≡ buffer
 Reads c b = Unit {0}
 
 -- Where hearing ended a transfer and nothing was lost until then, the report is that of the dictionary at the begin:
--- success without a verdict, else a failure by its code.
+-- success without a verdict, else a failure by its code, and never Undecided.
 
 abbrev pub verdict_of : Option (List ℕ) → Multiplexor → List Entry → Option AbortCode
 verdict_of None m d = read_verdict d m
@@ -70,18 +73,18 @@ verdict_of (Some v) m d = write_verdict d m v
 abbrev pub verdict_on : Note → List Entry → Option AbortCode
 verdict_on n d = verdict_of n.value n.multiplexor d
 
--- the code that a report names; none where it tells of a success
-abbrev pub code_in : Report → Option AbortCode
-code_in Written = None
-code_in (Read n) = None
-code_in (Unwritten f) = Some f.code
-code_in (Undecided f) = Some f.code
-code_in (Unread f) = Some f.code
+-- a report is that of a verdict, or of none
+abbrev pub TellsVerdict : Report → Option AbortCode → Type 0
+TellsVerdict Written v = v ≡ None
+TellsVerdict (Read n) v = v ≡ None
+TellsVerdict (Unwritten f) v = v ≡ Some f.code
+TellsVerdict (Undecided f) v = ⊥
+TellsVerdict (Unread f) v = v ≡ Some f.code
 
 pub record Judged (r : Report) (b : Book) (w : Watch) : Type 0 where
   pub note : Note
   pub noted : b.note ≡ Some note
-  pub verdict : code_in r ≡ verdict_on note w.before
+  pub verdict : TellsVerdict r (verdict_on note w.before)
 
 abbrev pub Verdict : Call → Book → Watch → Type 0
 Verdict (Settle k buffer (Ok r) after) b w = w.lost_before_over ≡ Some false → Judged r b w
