@@ -1,6 +1,7 @@
 //! A dictionary's entries as text.
 use crate::hex_bytes::HexBytes;
 use dictionary::{Attributes, Readable};
+use orders::LONGEST;
 use std::{io, iter};
 use wire::Multiplexor;
 
@@ -12,9 +13,6 @@ const LOWEST: Multiplexor = Multiplexor {
 
 /// How many multiplexors there are, which bounds the walk over all entries.
 const ALL: usize = 0x100_0000;
-
-/// The most bytes that a value has.
-const LONGEST: usize = 1024;
 
 /// Prints all entries of a dictionary, in rising order.
 pub fn print_entries<D: Readable>(rt: &HostRuntime, dictionary: &D) -> io::Result<()> {

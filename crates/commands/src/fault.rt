@@ -1,4 +1,7 @@
 //! Why a line gave no command.
+ghost use Rattle.std.specs.Prelude.{◌≡◌};
+ghost use Rattle.commands.specs.declared.fault.Fault.TheVariants.{OutOfMemory};
+
 use std::alloc::{AllocError, AllocFailed};
 
 /// The line is none, or there was no memory to read it.
@@ -10,12 +13,16 @@ pub enum Fault {
 
 // By hand: these errors become one of the variants, and no variant holds one.
 impl From<AllocError> for Fault {
+    ghost from_gives = { λ _ r. r ≡ OutOfMemory };
+
     fn from(_e: AllocError) -> Fault {
         Fault::OutOfMemory
     }
 }
 
 impl<T: Drop> From<AllocFailed<T>> for Fault {
+    ghost from_gives = { λ _ r. r ≡ OutOfMemory };
+
     fn from(_e: AllocFailed<T>) -> Fault {
         Fault::OutOfMemory
     }
