@@ -18,3 +18,4 @@ pub mod Ticking
 pub mod Settling
 pub mod Runs
 pub mod Commits
+pub mod Sentences

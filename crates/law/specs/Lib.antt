@@ -5,5 +5,6 @@ pub mod Runs
 pub mod Books
 pub mod Watches
 pub mod Law
+pub mod Sentences
 pub mod Cases
 pub mod Commits

@@ -5,4 +5,4 @@ mod cases;
 mod laws;
 
 pub use cases::sample_cases;
-pub use laws::law_stands;
+pub use laws::{law_says, law_stands};
