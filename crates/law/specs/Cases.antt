@@ -1,7 +1,8 @@
 -- Cases to read the models of the calls by, byte for byte: what a new bench does where nothing is lost.
 -- Its dictionary is the sample, its node has number 5 and takes sub-blocks of 127 segments.
-use Rattle.std.specs.Prelude.{◌≡◌, ℕ, zero, suc, true, false, List, [], ◌∷◌, length, map, Ok, IsErrAnd}
+use Rattle.std.specs.Prelude.{◌≡◌, ℕ, zero, suc, true, false, List, [], ◌∷◌, length, take, replicate, map, Ok, Err, IsErrAnd}
 use Rattle.std.proofs.Common.{arith}
+use Rattle.wire.specs.declared.abort_code.AbortCode.TheVariants.{ReadOnly, GeneralError}
 use Rattle.wire.specs.declared.frame.Frame.{Frame}
 use Rattle.wire.specs.declared.multiplexor.Multiplexor.{Multiplexor}
 use Rattle.wire.specs.declared.node_number.NodeNumber.{NodeNumber}
@@ -14,8 +15,11 @@ use Rattle.master.specs.Calls.{Order, Read, Write}
 use Rattle.master.specs.Laws.{is_open}
 use Rattle.master.specs.Refusals.{begin_number}
 use Rattle.node.specs.declared.served.Served.TheVariants.{Committed}
+use Rattle.register.specs.declared.layer.Layer.TheVariants as layer
+use Rattle.report.specs.declared.refusal.SettleRefusal.TheVariants.{NotOut, ShortBuffer}
+use Rattle.report.specs.declared.report.Report.TheVariants.{Written, Unwritten, Undecided}
 use Rattle.law.specs.States.{State, fresh}
-use Rattle.law.specs.Calls.{begin_answer, begin_step, serve_answer, serve_step, hear_step, tick_answer, tick_step}
+use Rattle.law.specs.Calls.{begin_answer, begin_step, serve_answer, serve_step, hear_step, tick_answer, tick_step, settle_answer, settle_buffer, settle_step}
 
 -- the bench
 
@@ -45,6 +49,10 @@ heard s = hear_step [] s
 abbrev pub ticked : ℕ → State → State
 ticked zero s = s
 ticked (suc n) s = ticked n (tick_step [] false s)
+
+-- some bytes of 170, as a buffer
+abbrev pub buffer : ℕ → List ℕ
+buffer n = replicate n 0xaa
 
 -- a frame as one sees it on a line: the number of its identifier, and its bytes
 pub record Seen : Type 0 where
@@ -109,6 +117,19 @@ pub record SampleCases : Type 0 where
   pub ninth_tick : tick_answer (ticked 8 write_of_two_bytes) ≡ false
   pub after_ninth_tick : is_open (ticked 9 write_of_two_bytes).master.phase ≡ true
   pub tenth_tick : tick_answer (ticked 9 write_of_two_bytes) ≡ true
+  -- a node that is busy says nothing for 24 ticks, and aborts in the 25th
+  pub node_waits : for_master (ticked 24 (heard (served read_of_device_name))) ≡ []
+  pub node_aborts : for_master (ticked 25 (heard (served read_of_device_name))) ≡ frame 0x585 0x80 0x08 0x10 0x00 0x00 0x00 0x04 0x05 ∷ []
+  -- settled: a write that was answered, and one that was refused; the number is asked before the buffer, which has to have 1,024 bytes
+  pub write_told : settle_answer 1 (buffer 1024) (heard (served write_of_two_bytes)) ≡ Ok Written
+  pub refusal_told : settle_answer 1 (buffer 1024) (heard (served (write_of_device_type 0 0 0 0))) ≡ Ok (Unwritten (record { multiplexor = at 0x1000 0; code = ReadOnly; segment = 0; layer = layer.Dictionary }))
+  pub too_short : settle_answer 1 (buffer 1023) (heard (served write_of_two_bytes)) ≡ Err ShortBuffer
+  pub too_short_for_none : settle_answer 2 (buffer 1023) (heard (served write_of_two_bytes)) ≡ Err NotOut
+  -- the six bytes of a read lie at the buffer's front
+  pub device_name_read : take 8 (settle_buffer 1 (buffer 1024) (heard (served (heard (served read_of_device_name))))) ≡ 0x6c ∷ 0x6f ∷ 0x61 ∷ 0x64 ∷ 0x65 ∷ 0x72 ∷ 0xaa ∷ 0xaa ∷ []
+  -- a write that is settled while it is open is given up, and may have been set
+  pub doubt_told : settle_answer 1 (buffer 1024) write_of_two_bytes ≡ Ok (Undecided (record { multiplexor = at 0x2000 1; code = GeneralError; segment = 0; layer = layer.Master }))
+  pub given_up : for_node (settle_step 1 (buffer 1024) [] write_of_two_bytes) ≡ frame 0x605 0x80 0x00 0x20 0x01 0x00 0x00 0x00 0x08 ∷ []
   -- a block write of any 1,024 bytes is begun, with the ticket of number 1; one of 1,025 bytes is refused, with number 4
   pub longest_begins : (v : List ℕ) → length v ≡ 1024 → begin_answer (at 0x2001 0) (Write Block v) bench ≡ Ok 1
   pub longer_refused : (v : List ℕ) → length v ≡ 1025 → IsErrAnd (begin_answer (at 0x2001 0) (Write Block v) bench) (λ e. begin_number e ≡ 4)

@@ -2,13 +2,14 @@
 use Rattle.std.proofs.Common.{refl}
 use Rattle.crc.specs.Registers.{after_bit, after_byte}
 use Rattle.master.specs.Calls.{begin, tick}
-use Rattle.master.specs.Steps.{hear}
+use Rattle.master.specs.Steps.{hear, parting, told}
 use Rattle.node.specs.Steps.{step}
-use Rattle.law.specs.Calls.{begin_step, serve_step, hear_step, tick_step}
+use Rattle.node.specs.Nodes.{tick as tick_node}
+use Rattle.law.specs.Calls.{begin_step, serve_step, hear_step, tick_step, settle_step}
 use Rattle.law.proofs.cases.sample_cases.Goals as goal
 
 pub returns : goal.returns
-unfolding after_bit after_byte begin tick hear step begin_step serve_step hear_step tick_step
+unfolding after_bit after_byte begin tick tick_node hear parting told step begin_step serve_step hear_step tick_step settle_step
 returns c = record {
   write_asked = refl;
   write_commits = refl;
@@ -25,6 +26,15 @@ returns c = record {
   ninth_tick = refl;
   after_ninth_tick = refl;
   tenth_tick = refl;
+  node_waits = refl;
+  node_aborts = refl;
+  write_told = refl;
+  refusal_told = refl;
+  too_short = refl;
+  too_short_for_none = refl;
+  device_name_read = refl;
+  doubt_told = refl;
+  given_up = refl;
   longest_begins = λ v h. rw h refl;
   longer_refused = λ v h. rw h refl;
 }
