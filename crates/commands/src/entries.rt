@@ -1,7 +1,6 @@
 //! A dictionary's entries as text.
-use crate::hex_bytes::HexBytes;
 use dictionary::{Attributes, Readable};
-use orders::LONGEST;
+use orders::{HexBytes, LONGEST};
 use std::{io, iter};
 use wire::Multiplexor;
 

@@ -1,6 +1,6 @@
 //! How a transfer began and what became of it, as text.
-use crate::hex_bytes::HexBytes;
 use master::BeginRefusal;
+use orders::HexBytes;
 use report::{Failure, Report, SettleRefusal};
 use std::io;
 

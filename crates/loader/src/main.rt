@@ -2,7 +2,6 @@
 #![tactic(auto)]
 
 mod device;
-mod hex_bytes;
 mod line_kind;
 mod load;
 mod loading;

@@ -1,10 +1,9 @@
 //! The sheet of a load: a row for each order, and how many came out how.
-use crate::hex_bytes::HexBytes;
 use crate::loading::Loading;
 use crate::options::Options;
 use dictionary::Writable;
 use line::Recording;
-use orders::{Order, Transfer};
+use orders::{HexBytes, Order, Transfer};
 use register::Layer;
 use report::{Failure, Report};
 use std::alloc::{AllocError, Global};

@@ -4,6 +4,7 @@
 mod bad_line;
 mod fault;
 mod hex;
+mod hex_bytes;
 mod line;
 mod order;
 mod reading;
@@ -13,6 +14,7 @@ mod transfer;
 pub use bad_line::BadLine;
 pub use fault::Fault;
 pub use hex::{read_byte, read_multiplexor};
+pub use hex_bytes::HexBytes;
 pub use line::read_line;
 pub use order::{LONGEST, Order};
 pub use reading::{Reading, read_orders};

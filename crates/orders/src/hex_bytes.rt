@@ -2,7 +2,7 @@
 use std::fmt;
 use wire::Hex;
 
-/// Bytes in two hex digits each, parted by blanks.
+/// Bytes as an order writes them: in two hex digits each, parted by blanks.
 #[derive(Clone, Copy)]
 pub struct HexBytes<'a>(pub &'a [u8]);
 
