@@ -3,6 +3,7 @@ use arrayvec::ArrayVec;
 use master::{BeginRefusal, Heard};
 use node::Served;
 use report::{Report, SettleRefusal};
+use wire::LONGEST;
 
 /// The answer to one call.
 #[derive(Drop)]
@@ -18,6 +19,6 @@ pub enum Answer {
     /// To a settle; `read` has the bytes that a read has put into the buffer.
     Settled {
         report: Result<Report, SettleRefusal>,
-        read: ArrayVec<u8, 1024>,
+        read: ArrayVec<u8, LONGEST>,
     },
 }

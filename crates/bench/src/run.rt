@@ -14,6 +14,7 @@ use crate::ticket::Ticket;
 use dictionary::Writable;
 use line::Line;
 use report::Report;
+use wire::LONGEST;
 
 mod acting;
 mod holding;
@@ -29,7 +30,7 @@ pub struct Ran<L: Line, D: Writable> {
 
 impl<L: Line, D: Writable> Ran<L, D> {
     /// Settles the ticket that is out, if one is, and hands out the bench, the report and the answers. A read's bytes go to the buffer's front.
-    pub fn finish(self, buffer: &mut [u8; 1024]) -> (Bench<L, D>, Option<Report>, Vec<Answer>)
+    pub fn finish(self, buffer: &mut [u8; LONGEST]) -> (Bench<L, D>, Option<Report>, Vec<Answer>)
         ensures settled { Finishes self.ticket result.1 buffer.old buffer.new (state_of L.Line.shows D.Readable.meaning self.bench) (state_of L.Line.shows D.Readable.meaning result.0) }
         ensures answers { result.2 ≡ self.answers }
     {

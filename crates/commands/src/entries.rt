@@ -1,8 +1,8 @@
 //! A dictionary's entries as text.
 use dictionary::{Attributes, Readable};
-use orders::{HexBytes, LONGEST};
+use orders::HexBytes;
 use std::{io, iter};
-use wire::Multiplexor;
+use wire::{LONGEST, Multiplexor};
 
 /// The lowest multiplexor of all.
 const LOWEST: Multiplexor = Multiplexor {

@@ -4,7 +4,7 @@ ghost use Rattle.dictionary.specs.Commits.{decided};
 ghost use Rattle.dictionary.specs.Plain.{lawful_lengths, objection, start_objection};
 
 use crate::access::Access;
-use wire::AbortCode;
+use wire::{AbortCode, LONGEST};
 
 /// An entry's access and the lengths in bytes that its value may have, from shortest to longest.
 #[derive(Clone, Copy, PartialEq, Eq, Debug)]
@@ -56,7 +56,7 @@ impl Attributes {
     {
         1 <= self.shortest
             && self.shortest <= self.longest
-            && self.longest <= 1024
+            && usize::from(self.longest) <= LONGEST
             && usize::from(self.shortest) <= len
             && len <= usize::from(self.longest)
     }

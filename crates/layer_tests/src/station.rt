@@ -10,10 +10,7 @@ ghost use Rattle.layer_tests.specs.Stations.{length_or};
 
 use dictionary::{CopyRefusal, Readable, Writable};
 use line::{End, Line};
-use wire::{AbortCode, Frame, Multiplexor};
-
-/// The most bytes that a value of any dictionary has.
-const LONGEST: usize = 1024;
+use wire::{AbortCode, Frame, LONGEST, Multiplexor};
 
 /// A line and a dictionary, which nothing else reaches.
 #[derive(Drop)]

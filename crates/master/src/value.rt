@@ -6,12 +6,10 @@ ghost use Rattle.master.specs.Values.{segments, unused, is_last, closing_crc};
 
 use arrayvec::ArrayVec;
 use sdo::{CrcOffer, SegmentData, UnusedBytes};
-
-/// How many bytes a value has at most.
-pub(crate) const CAPACITY: usize = 1024;
+use wire::LONGEST;
 
 /// The bytes of a value.
-pub(crate) type Value = ArrayVec<u8, CAPACITY>;
+pub(crate) type Value = ArrayVec<u8, LONGEST>;
 
 /// How many segments there are.
 pub(crate) fn segments(value: &Value) -> usize

@@ -5,10 +5,10 @@ ghost use Rattle.std.specs.Prelude.{◌≡◌, Some};
 ghost use Rattle.orders.specs.Reasons.{reason};
 ghost use Rattle.orders.specs.declared.fault.Fault.TheVariants.{OutOfMemory};
 
-use crate::order::LONGEST;
 use crate::transfer::MOST_EXPEDITED;
 use std::alloc::AllocError;
 use std::fmt;
+use wire::LONGEST;
 
 /// The first thing wrong with a line, or the want of memory for an order with nothing wrong.
 #[derive(Clone, Copy, PartialEq, Eq, Debug)]

@@ -8,11 +8,11 @@ ghost use Rattle.orders.specs.Transfers.{transfer_for};
 
 use crate::fault::Fault;
 use crate::hex::{read_byte, read_multiplexor};
-use crate::order::{LONGEST, Order};
+use crate::order::Order;
 use crate::transfer::Transfer;
 use arrayvec::ArrayVec;
 use std::alloc::Global;
-use wire::Multiplexor;
+use wire::{LONGEST, Multiplexor};
 
 /// Whether a line is a comment.
 fn is_comment(line: &[u8]) -> bool

@@ -9,6 +9,7 @@ use dictionary::{Writable, sample};
 use drive::Drive;
 use line::{DropLayer, MailboxLine, MemoryLine, Recorder, Recording, Sent};
 use std::alloc::{AllocError, Global};
+use wire::LONGEST;
 
 /// How many frames are kept: so many of the last ones have a check value.
 const KEPT: usize = 256;
@@ -65,7 +66,7 @@ fn with_line<L: Recording + Drop, D: Writable + Drop>(
         |_| AllocError,
     )?;
     let printed = print_ran(rt, script, &ran);
-    let _ = ran.finish(&mut [0; 1024]);
+    let _ = ran.finish(&mut [0; LONGEST]);
     printed
 }
 

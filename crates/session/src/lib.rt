@@ -3,4 +3,5 @@
 
 mod session;
 
-pub use session::{LONGEST, Session};
+pub use session::Session;
+pub use wire::LONGEST;

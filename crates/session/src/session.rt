@@ -16,10 +16,7 @@ use line::Line;
 use master::{BeginRefusal, Heard, Method};
 use node::Served;
 use report::{Report, SettleRefusal};
-use wire::Multiplexor;
-
-/// How many bytes a value has at most, and so how many a buffer has to have.
-pub const LONGEST: usize = 1024;
+use wire::{LONGEST, Multiplexor};
 
 /// A bench whose caller holds the ticket that is out, if one is.
 // Without Drop: a ticket that is held has to be settled.

@@ -20,4 +20,4 @@ pub use identifier::Identifier;
 pub use multiplexor::Multiplexor;
 pub use node_number::NodeNumber;
 pub use text::Hex;
-pub use transfer::Transfer;
+pub use transfer::{LONGEST, Transfer};

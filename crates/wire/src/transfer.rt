@@ -3,6 +3,9 @@ use crate::frame_data::ExpeditedData;
 
 mod methods;
 
+/// How many bytes a value has at most.
+pub const LONGEST: usize = 1024;
+
 /// The value at once in the start of its transfer, or in segments to come.
 #[derive(Clone, Copy, PartialEq, Eq, Debug)]
 pub enum Transfer {

@@ -15,9 +15,7 @@ use crate::ticket::Ticket;
 use dictionary::Writable;
 use line::Line;
 use report::{Report, SettleRefusal, report_of};
-
-/// How many bytes a value has at most, and so how many a buffer has to have.
-const LONGEST: usize = 1024;
+use wire::LONGEST;
 
 impl<L: Line, D: Writable> Bench<L, D> {
     /// Takes a ticket back and tells what became of its transfer; one that is open is given up. The bytes of a read, 1,024 at most, go to the buffer's front.

@@ -4,9 +4,10 @@ ghost use Rattle.bench.specs.Answers.{read_in};
 
 use arrayvec::ArrayVec;
 use report::Report;
+use wire::LONGEST;
 
 /// The bytes that a read has put to the front of a buffer; none after another report.
-pub(super) fn read_bytes(report: Report, buffer: &[u8]) -> ArrayVec<u8, 1024>
+pub(super) fn read_bytes(report: Report, buffer: &[u8]) -> ArrayVec<u8, LONGEST>
     requires inside { (n : ℕ) → report ≡ Report.Read n → n ≤ length buffer.now }
     requires bound { (n : ℕ) → report ≡ Report.Read n → n ≤ 1024 }
     ensures { result.items ≡ read_in (Ok report) buffer.now }

@@ -4,9 +4,10 @@ ghost use Rattle.dictionary.specs.Layouts.{overwritten};
 
 use crate::table::MOST_BYTES;
 use arrayvec::ArrayVec;
+use wire::LONGEST;
 
 /// What lies behind a value up to its longest length.
-const SPARE: [u8; 1024] = [0; 1024];
+const SPARE: [u8; LONGEST] = [0; LONGEST];
 
 /// Writes a value over the bytes from a place on.
 pub(super) fn overwrite(bytes: &mut [u8], start: usize, value: &[u8])

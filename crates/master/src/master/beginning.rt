@@ -11,9 +11,9 @@ use crate::method::Method;
 use crate::phase::{Awaiting, Phase};
 use crate::refusal::BeginRefusal;
 use crate::sending::{Batch, Begun, Sending};
-use crate::value::{CAPACITY, Value};
+use crate::value::Value;
 use sdo::{CrcOffer, ExpeditedData, Request, Transfer};
-use wire::Multiplexor;
+use wire::{LONGEST, Multiplexor};
 
 impl Master {
     /// Begins a read, or says why not.
@@ -83,7 +83,7 @@ fn write_start(
 ) -> Result<Request, BeginRefusal>
     ensures { shown_start result ≡ start_of multiplexor (Write method value.now) }
 {
-    if value.is_empty() || value.len() > CAPACITY {
+    if value.is_empty() || value.len() > LONGEST {
         return Err(BeginRefusal::ValueLength);
     }
     let size = Some(value.len() as u32);

@@ -10,9 +10,9 @@ ghost use Rattle.master.specs.Shown.{Follows};
 use super::Master;
 use crate::phase::Awaiting;
 use crate::sending::{Batch, Hearing};
-use crate::value::{CAPACITY, Value};
+use crate::value::Value;
 use sdo::{Request, Segment, SegmentData, Toggle, Transfer};
-use wire::AbortCode;
+use wire::{AbortCode, LONGEST};
 
 impl Master {
     /// The node gives the value, or announces it.
@@ -48,7 +48,7 @@ impl Master {
         let bytes = segment.bytes;
         let awaiting = Awaiting::UploadSegment { toggle, size };
         let total = self.value.len() + bytes.value().len();
-        if total > CAPACITY {
+        if total > LONGEST {
             self.find(awaiting, AbortCode::OutOfMemory)
         } else if segment.last {
             self.read_whole(awaiting, size, bytes)
@@ -91,7 +91,7 @@ impl Master {
 fn may_come(size: Option<u32>) -> bool
     ensures { result ≡ may_come size }
 {
-    size.is_none_or(|size| size >= 1 && size as usize <= CAPACITY)
+    size.is_none_or(|size| size >= 1 && size as usize <= LONGEST)
 }
 
 /// Whether an announced size differs from a number of bytes.

@@ -13,10 +13,7 @@ use crate::served::Served;
 use crate::transfer::Transfer;
 use dictionary::{Readable, Writable, check_start};
 use sdo::{Answer, Segment, Toggle};
-use wire::{AbortCode, Multiplexor};
-
-/// How many bytes a value has at most.
-const LONGEST: usize = 1024;
+use wire::{AbortCode, LONGEST, Multiplexor};
 
 impl Node {
     /// The start of a write: a value that comes at once is committed, for a longer one its segments are awaited.
