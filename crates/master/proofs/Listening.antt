@@ -12,7 +12,7 @@ use Rattle.wire.specs.Transfers.{Transfer, Expedited, Segmented}
 use Rattle.sdo.specs.declared.crc_offer.CrcOffer.{CrcOffer}
 use Rattle.sdo.specs.declared.toggle.Toggle.{Toggle}
 use Rattle.sdo.specs.declared.toggle.Toggle.TheVariants.{Zero}
-use Rattle.sdo.specs.Segments.{segment, other, same_toggle}
+use Rattle.sdo.specs.Segments.{segment, differs, other, same_toggle}
 use Rattle.sdo.specs.Frames.{request_frame}
 use Rattle.sdo.specs.Requests as request
 use Rattle.sdo.specs.Answers.{Answer}
@@ -23,7 +23,7 @@ use Rattle.master.specs.declared.phase.Awaiting.{Awaiting}
 use Rattle.master.specs.declared.phase.Awaiting.TheVariants as awaiting
 use Rattle.master.specs.declared.phase.SubBlock.{SubBlock}
 use Rattle.master.specs.declared.phase.Finder.TheVariants.{Master, Node}
-use Rattle.master.specs.Values.{segments, unused, is_last, may_come, differs, is_block_size, closing_crc}
+use Rattle.master.specs.Values.{segments, unused, is_last, may_come, is_block_size, closing_crc}
 use Rattle.master.specs.States.{State}
 use Rattle.master.specs.Sendings.{sub_block_of}
 use Rattle.master.specs.Steps.{Step, may_have_set, found, unexpected, told, done, send_segment, ask_segment, send_sub_block, send_end, go_on, block_started, kept, segment_taken, upload_started, read_whole, read_on, started, toggled, hear_initiate_download, hear_download_segment, hear_initiate_upload, hear_upload_segment, hear_initiate_block, hear_acknowledgement, hear_end, answered, read, parting}

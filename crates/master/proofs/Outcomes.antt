@@ -11,7 +11,7 @@ use Rattle.wire.specs.Frames.{answer_identifier}
 use Rattle.sdo.specs.declared.crc_offer.CrcOffer.{CrcOffer}
 use Rattle.sdo.specs.declared.toggle.Toggle.{Toggle}
 use Rattle.sdo.specs.declared.toggle.Toggle.TheVariants.{Zero, One}
-use Rattle.sdo.specs.Segments.{other, same_toggle}
+use Rattle.sdo.specs.Segments.{differs, other, same_toggle}
 use Rattle.wire.specs.Transfers.{Transfer, Expedited, Segmented}
 use Rattle.sdo.specs.Requests.{Request}
 use Rattle.sdo.specs.Answers.{Answer, answer_in}
@@ -24,7 +24,7 @@ use Rattle.master.specs.declared.phase.Awaiting.TheVariants as awaiting
 use Rattle.master.specs.declared.phase.SubBlock.{SubBlock}
 use Rattle.master.specs.declared.phase.Failure.{Failure}
 use Rattle.master.specs.declared.refusal.BeginRefusal.{BeginRefusal}
-use Rattle.master.specs.Values.{segments, is_last, may_come, differs, is_block_size}
+use Rattle.master.specs.Values.{segments, is_last, may_come, is_block_size}
 use Rattle.master.specs.States.{State, in_phase}
 use Rattle.master.specs.Sendings.{sub_block_of}
 use Rattle.master.specs.Steps.{Step, found, unexpected, told, done, unmoved, send, send_segment, ask_segment, send_sub_block, send_end, go_on, block_started, kept, segment_taken, upload_started, read_whole, read_on, started, toggled, hear_initiate_download, hear_download_segment, hear_initiate_upload, hear_upload_segment, hear_initiate_block, hear_acknowledgement, hear_end, answered, read, hear_open, hear_in, parting, abandoned, hear}

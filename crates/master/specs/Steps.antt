@@ -9,7 +9,7 @@ use Rattle.wire.specs.Frames.{answer_identifier}
 use Rattle.sdo.specs.declared.crc_offer.CrcOffer.{CrcOffer}
 use Rattle.sdo.specs.declared.toggle.Toggle.{Toggle}
 use Rattle.sdo.specs.declared.toggle.Toggle.TheVariants.{Zero}
-use Rattle.sdo.specs.Segments.{segment, other, same_toggle}
+use Rattle.sdo.specs.Segments.{segment, differs, other, same_toggle}
 use Rattle.wire.specs.Transfers.{Transfer, Expedited, Segmented}
 use Rattle.sdo.specs.Requests.{Request}
 use Rattle.sdo.specs.Requests as request
@@ -25,7 +25,7 @@ use Rattle.master.specs.declared.phase.Awaiting.TheVariants as awaiting
 use Rattle.master.specs.declared.phase.SubBlock.{SubBlock}
 use Rattle.master.specs.declared.phase.Finder.{Finder}
 use Rattle.master.specs.declared.phase.Finder.TheVariants.{Master, Node}
-use Rattle.master.specs.Values.{segments, unused, is_last, may_come, differs, is_block_size, closing_crc}
+use Rattle.master.specs.Values.{segments, unused, is_last, may_come, is_block_size, closing_crc}
 use Rattle.master.specs.States.{State}
 use Rattle.master.specs.Sendings.{Sending, silence, sub_block_of}
 

@@ -1,5 +1,5 @@
 -- A value as its segments cut it: seven bytes each, the last one up to seven.
-use Rattle.std.specs.Prelude.{ℕ, ◌+◌, ◌-◌, ◌*◌, ◌/◌, Bool, true, false, not, ◌&&◌, List, length, Some, None, Option, ◌==◌, nat_le}
+use Rattle.std.specs.Prelude.{ℕ, ◌+◌, ◌-◌, ◌*◌, ◌/◌, Bool, true, false, ◌&&◌, List, length, Some, None, Option, nat_le}
 use Rattle.crc.specs.Registers.{crc}
 use Rattle.sdo.specs.declared.crc_offer.CrcOffer.{CrcOffer}
 use Rattle.sdo.specs.declared.crc_offer.CrcOffer.TheVariants.{Offered, NotOffered}
@@ -23,11 +23,6 @@ is_length n = nat_le 1 n && nat_le n 1024
 abbrev pub may_come : Option ℕ → Bool
 may_come None = true
 may_come (Some size) = is_length size
-
--- an announced size differs from a number of bytes
-abbrev pub differs : Option ℕ → ℕ → Bool
-differs None n = false
-differs (Some size) n = not (size == n)
 
 -- a number of segments that a sub-block can have
 abbrev pub is_block_size : ℕ → Bool

@@ -17,7 +17,7 @@ use Rattle.sdo.specs.BlockRequests as block
 use Rattle.sdo.specs.Requests.{Request, request_in}
 use Rattle.sdo.specs.Requests as request
 use Rattle.wire.specs.FrameData.{fits_expedited}
-use Rattle.sdo.specs.Segments.{other, same_toggle}
+use Rattle.sdo.specs.Segments.{differs, other, same_toggle}
 use Rattle.wire.specs.Transfers as coming
 use Rattle.dictionary.specs.Entries.{Entry}
 use Rattle.dictionary.specs.Questions.{value_at}
@@ -29,7 +29,7 @@ use Rattle.node.specs.declared.served.Served.{Served}
 use Rattle.node.specs.declared.served.Served.TheVariants.{Aborted, Dropped}
 use Rattle.node.specs.Buffers.{full}
 use Rattle.node.specs.States.{State, Transfer, Idle, Download, Upload, BlockDownload, BlockEnd, is_idle, named}
-use Rattle.node.specs.Steps.{Step, Setting, refused, ended, answered, dropped, commit, differs, completed, received, download_segment, crc_differs, upload_segment, block_end, asked, understood, ends, keep, pass_over, spoil, asked_in_block, heard, step}
+use Rattle.node.specs.Steps.{Step, Setting, refused, ended, answered, dropped, commit, completed, received, download_segment, crc_differs, upload_segment, block_end, asked, understood, ends, keep, pass_over, spoil, asked_in_block, heard, step}
 use Rattle.node.specs.Nodes.{timed_out, waited, tick}
 use Rattle.node.specs.Runs.{Notes, Nothing, Segments, Block, Whole, noted, noted_start, noted_toggle, extended, to, told, after_request, after_known, acknowledged, after_block, notes_after, notes_by, Scene, Event, Serve, happened, run, past, step_after, carried, completes, announced, given_crc, offered, Completes, Says, InTurn, ValuesCarried, TogglesAlternate}
 use Rattle.node.specs.Runs as runs

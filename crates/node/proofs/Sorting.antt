@@ -8,7 +8,7 @@ use Rattle.sdo.specs.declared.crc_offer.CrcOffer.TheVariants.{Offered}
 use Rattle.sdo.specs.declared.toggle.Toggle.{Toggle}
 use Rattle.sdo.specs.declared.toggle.Toggle.TheVariants.{Zero}
 use Rattle.wire.specs.FrameData.{fits_expedited}
-use Rattle.sdo.specs.Segments.{other, same_toggle}
+use Rattle.sdo.specs.Segments.{differs, other, same_toggle}
 use Rattle.dictionary.specs.Questions.{value_at}
 use Rattle.sdo.specs.Answers.{Answer}
 use Rattle.sdo.specs.Answers as answer
@@ -25,7 +25,7 @@ use Rattle.node.specs.declared.reception.Reception.{Reception}
 use Rattle.node.proofs.Choosing.{chosen, judged}
 use Rattle.node.specs.States.{State, Transfer, Idle, Download, Upload, BlockDownload, BlockEnd, next_sub_block, is_idle}
 use Rattle.node.specs.Buffers.{full}
-use Rattle.node.specs.Steps.{differs, crc_differs, given, ends, Step, committed, refused, ended, answered, dropped, kept, nothing, unless, commit, completed, received, download_segment, upload_segment, block_end, asked, understood, keep, spoil, asked_in_block, heard, step}
+use Rattle.node.specs.Steps.{crc_differs, given, ends, Step, committed, refused, ended, answered, dropped, kept, nothing, unless, commit, completed, received, download_segment, upload_segment, block_end, asked, understood, keep, spoil, asked_in_block, heard, step}
 
 abbrev pub says_abort : Answer → Bool
 says_abort (answer.InitiateDownload m) = false

@@ -10,7 +10,7 @@ use Rattle.sdo.specs.declared.crc_offer.CrcOffer.{CrcOffer}
 use Rattle.sdo.specs.declared.crc_offer.CrcOffer.TheVariants.{Offered, NotOffered}
 use Rattle.sdo.specs.declared.toggle.Toggle.{Toggle}
 use Rattle.sdo.specs.declared.toggle.Toggle.TheVariants.{Zero}
-use Rattle.sdo.specs.Segments.{other, same_toggle}
+use Rattle.sdo.specs.Segments.{differs, other, same_toggle}
 use Rattle.wire.specs.FrameData.{fits_expedited}
 use Rattle.wire.specs.Transfers as coming
 use Rattle.sdo.specs.Requests.{Request, request_in}
@@ -105,11 +105,6 @@ block_awaited n b v = answered (BlockDownload (next_sub_block b) v) (answer.Init
 
 abbrev pub start_block : List Entry → ℕ → BlockStart → Step
 start_block d n b = unless (start_verdict d b.download.multiplexor b.download.size) b.download.multiplexor (block_awaited n b [])
-
--- an announced size differs from a number of bytes
-abbrev pub differs : Option ℕ → ℕ → Bool
-differs None n = false
-differs (Some size) n = not (size == n)
 
 -- all bytes of a write are there: its announced size is compared, then it is committed
 abbrev pub completed : List Entry → DownloadStart → List ℕ → Answer → Step

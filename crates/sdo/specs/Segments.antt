@@ -1,6 +1,6 @@
 -- Segments of a value: which part each one carries, and the bytes of a segment in both directions.
 -- A segment has up to seven bytes of the value, its toggle bit, and a mark if it is the last.
-use Rattle.std.specs.Prelude.{◌≡◌, ℕ, zero, suc, ◌+◌, ◌-◌, ◌*◌, ◌/◌, ◌%◌, Bool, true, false, cond, List, [], ◌∷◌, ◌++◌, length, take, drop}
+use Rattle.std.specs.Prelude.{◌≡◌, ℕ, zero, suc, ◌+◌, ◌-◌, ◌*◌, ◌/◌, ◌%◌, Bool, true, false, cond, not, List, [], ◌∷◌, ◌++◌, length, take, drop, Some, None, Option, ◌==◌}
 use Rattle.wire.specs.Fields.{b, bit0}
 use Rattle.wire.specs.FrameData.{padded}
 use Rattle.sdo.specs.Fields.{bit4, set_bit, last_seven}
@@ -20,6 +20,11 @@ joined (suc k) v = joined k v ++ segment (suc k) v
 -- they are the first 7n bytes of the value
 abbrev pub SegmentsJoin : Type 0
 SegmentsJoin = (n : ℕ) (v : List ℕ) → joined n v ≡ take (7 * n) v
+
+-- an announced size differs from a number of bytes
+abbrev pub differs : Option ℕ → ℕ → Bool
+differs None n = false
+differs (Some size) n = not (size == n)
 
 -- the toggle bit, bit 4 of b0
 abbrev pub toggle_bit : Toggle → ℕ

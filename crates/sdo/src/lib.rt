@@ -24,6 +24,6 @@ pub use request::Request;
 pub use round_trips::messages_read_back;
 pub use segment_data::SegmentData;
 pub use segment_frame::Segment;
-pub use segments::{segment, segments_join};
+pub use segments::{differs, segment, segments_join};
 pub use toggle::Toggle;
 pub use wire::{ExpeditedData, Transfer};

@@ -3,7 +3,7 @@ ghost use Rattle.std.specs.Prelude.{◌≡◌, ◌≤◌, ◌++◌, length};
 ghost use Rattle.wire.specs.FrameData.{value_in};
 ghost use Rattle.wire.specs.Transfers.{shown_transfer, Segmented};
 ghost use Rattle.master.specs.declared.phase.Awaiting.TheVariants.{UploadSegment};
-ghost use Rattle.master.specs.Values.{may_come, differs};
+ghost use Rattle.master.specs.Values.{may_come};
 ghost use Rattle.master.specs.Steps.{ask_segment, upload_started, read_whole, read_on};
 ghost use Rattle.master.specs.Shown.{Follows};
 
@@ -11,7 +11,7 @@ use super::Master;
 use crate::phase::Awaiting;
 use crate::sending::{Batch, Hearing};
 use crate::value::Value;
-use sdo::{Request, Segment, SegmentData, Toggle, Transfer};
+use sdo::{Request, Segment, SegmentData, Toggle, Transfer, differs};
 use wire::{AbortCode, LONGEST};
 
 impl Master {
@@ -92,12 +92,4 @@ fn may_come(size: Option<u32>) -> bool
     ensures { result ≡ may_come size }
 {
     size.is_none_or(|size| size >= 1 && size as usize <= LONGEST)
-}
-
-/// Whether an announced size differs from a number of bytes.
-// The other end has the same line: the crate below both has messages, and no values whose bytes are counted.
-fn differs(size: Option<u32>, total: usize) -> bool
-    ensures { result ≡ differs size total }
-{
-    size.is_some_and(|size| size as usize != total)
 }

@@ -4,7 +4,7 @@ ghost use Rattle.sdo.specs.Answers.{shown_answer};
 ghost use Rattle.wire.specs.FrameData.{value_in};
 ghost use Rattle.wire.specs.Transfers.{Segmented, shown_transfer as shown-coming};
 ghost use Rattle.node.specs.Nodes.{Turns, Does, shown};
-ghost use Rattle.node.specs.Steps.{start_download, differs as differs-from, completed, received, download_segment};
+ghost use Rattle.node.specs.Steps.{start_download, completed, received, download_segment};
 
 use super::Node;
 use crate::download_start::DownloadStart;
@@ -12,7 +12,7 @@ use crate::reaction::Reaction;
 use crate::served::Served;
 use crate::transfer::Transfer;
 use dictionary::{Readable, Writable, check_start};
-use sdo::{Answer, Segment, Toggle};
+use sdo::{Answer, Segment, Toggle, differs};
 use wire::{AbortCode, LONGEST, Multiplexor};
 
 impl Node {
@@ -114,12 +114,4 @@ impl Node {
         }
         self.commit(dictionary, start.multiplexor, answer)
     }
-}
-
-/// Whether an announced size differs from a number of bytes.
-// The other end has the same line: the crate below both has messages, and no values whose bytes are counted.
-fn differs(size: Option<u32>, len: usize) -> bool
-    ensures { result ≡ differs-from size len }
-{
-    size.is_some_and(|size| size as usize != len)
 }
