@@ -135,6 +135,27 @@ fn a_size_that_differs_is_refused(rt: HostRuntime) -> Result<(), Fail> {
 }
 
 #[test]
+fn a_wrong_crc_is_told_before_a_size_that_differs(rt: HostRuntime) -> Result<(), Fail> {
+    check_run(
+        &rt,
+        &[
+            Turn(
+                [0xc6, 1, 0x20, 0, 8, 0, 0, 0],
+                Served::Answered,
+                Some([0xa4, 1, 0x20, 0, 127, 0, 0, 0]),
+            ),
+            FIRST,
+            LAST,
+            Turn(
+                [0xd5, 0xc2, 0x31, 0, 0, 0, 0, 0],
+                Served::Aborted,
+                Some([0x80, 1, 0x20, 0, 4, 0, 4, 5]),
+            ),
+        ],
+    )
+}
+
+#[test]
 fn segments_out_of_order_are_dropped(rt: HostRuntime) -> Result<(), Fail> {
     begun(&rt, 3)?.check_all(
         &rt,
