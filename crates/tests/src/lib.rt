@@ -4,10 +4,6 @@
 #[cfg(test)]
 mod crc_tests;
 #[cfg(test)]
-mod line_tests;
-#[cfg(test)]
-mod order_tests;
-#[cfg(test)]
 mod register_tests;
 #[cfg(test)]
 mod search_tests;
