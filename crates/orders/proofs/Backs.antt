@@ -13,7 +13,8 @@ use Rattle.orders.specs.Lines.{faulty, longest, is_comment, without_return, byte
 use Rattle.orders.specs.Pieces.{is_blank, is_line_end, pieces, not_empty, words, lines}
 use Rattle.orders.specs.Texts.{orders_on, orders_in, bad_on, bad_in}
 use Rattle.orders.specs.Transfers.{name_of, transfer_named, transfer_for}
-use Rattle.orders.specs.Written.{digit_for, byte_written, bytes_written, multiplexor_written, named_before, written, text_written, read_as, Sound, LinesReadBack, TextsReadBack}
+use Rattle.wire.specs.Texts.{hex_digit as digit_for, hex_byte}
+use Rattle.orders.specs.Written.{bytes_written, multiplexor_written, named_before, written, text_written, read_as, Sound, LinesReadBack, TextsReadBack}
 use Rattle.orders.proofs.Digits.{digit_above, digit_below, byte_read, multiplexor-read}
 
 -- a piece that holds no separator
@@ -49,7 +50,7 @@ letters (c ∷ w) test =
     let both = and_parts (nat_le 48 c) (list_all (nat_le 48) w) test in
     let first : 48 ≤ c = above c both.0 in All-cons (λ c. 48 ≤ c) c w first (letters w both.1)
 
-byte_dark : (b : ℕ) → All (λ c. 48 ≤ c) (byte_written b)
+byte_dark : (b : ℕ) → All (λ c. 48 ≤ c) (hex_byte b)
 byte_dark b =
     let Dark : ℕ → Type 0 = λ c. 48 ≤ c in
     let high = digit_for (b / 16) in
@@ -58,9 +59,9 @@ byte_dark b =
 
 multiplexor_dark : (m : Multiplexor) → All (λ c. 48 ≤ c) (multiplexor_written m)
 multiplexor_dark m =
-    All-append (λ c. 48 ≤ c) (byte_written (m.index / 256) ++ byte_written (m.index % 256)) (58 ∷ byte_written m.subindex)
-    (All-append (λ c. 48 ≤ c) (byte_written (m.index / 256)) (byte_written (m.index % 256)) (byte_dark (m.index / 256)) (byte_dark (m.index % 256)))
-    (All-cons (λ c. 48 ≤ c) 58 (byte_written m.subindex) (omega arith) (byte_dark m.subindex))
+    All-append (λ c. 48 ≤ c) (hex_byte (m.index / 256) ++ hex_byte (m.index % 256)) (58 ∷ hex_byte m.subindex)
+    (All-append (λ c. 48 ≤ c) (hex_byte (m.index / 256)) (hex_byte (m.index % 256)) (byte_dark (m.index / 256)) (byte_dark (m.index % 256)))
+    (All-cons (λ c. 48 ≤ c) 58 (hex_byte m.subindex) (omega arith) (byte_dark m.subindex))
 
 lighter : (w : List ℕ) → All (λ c. 48 ≤ c) w → All (λ c. 32 ≤ c) w
 lighter w h = All-weaker (λ c. 48 ≤ c) (λ c. 32 ≤ c) (λ c k. omega arith) w h
@@ -71,13 +72,13 @@ kept c w ps = let some : eqb (length (c ∷ w)) 0 ≡ false = ne_eqb _ _ (λ e. 
 words_first : (c : ℕ) (w line : List ℕ) → Whole is_blank (c ∷ w) → words ((c ∷ w) ++ 32 ∷ line) ≡ (c ∷ w) ∷ words line
 words_first c w line whole = ap not_empty (pieces_first is_blank 32 refl (c ∷ w) line whole) ∙ kept c w (pieces is_blank line)
 
-words-written : (c : ℕ) (w v : List ℕ) → Whole is_blank (c ∷ w) → words ((c ∷ w) ++ bytes_written v) ≡ (c ∷ w) ∷ map byte_written v
+words-written : (c : ℕ) (w v : List ℕ) → Whole is_blank (c ∷ w) → words ((c ∷ w) ++ bytes_written v) ≡ (c ∷ w) ∷ map hex_byte v
 words-written c w [] whole = ap words (append-nil (c ∷ w)) ∙ ap not_empty (pieces-last is_blank c w whole) ∙ kept c w []
 words-written c w (b ∷ v) whole =
-    ap not_empty (pieces_first is_blank 32 refl (c ∷ w) (byte_written b ++ bytes_written v) whole) ∙ kept c w (pieces is_blank (byte_written b ++ bytes_written v))
-    ∙ ap (λ ws. (c ∷ w) ∷ ws) (words-written (digit_for (b / 16)) (digit_for (b % 16) ∷ []) v (All-weaker (λ c. 48 ≤ c) (λ c. is_blank c ≡ false) dark (byte_written b) (byte_dark b)))
+    ap not_empty (pieces_first is_blank 32 refl (c ∷ w) (hex_byte b ++ bytes_written v) whole) ∙ kept c w (pieces is_blank (hex_byte b ++ bytes_written v))
+    ∙ ap (λ ws. (c ∷ w) ∷ ws) (words-written (digit_for (b / 16)) (digit_for (b % 16) ∷ []) v (All-weaker (λ c. 48 ≤ c) (λ c. is_blank c ≡ false) dark (hex_byte b) (byte_dark b)))
 
-bytes_read : (bs v : List ℕ) → All (λ b. b < 2 ^ 8) v → length bs + length v ≤ longest → bytes_in bs (map byte_written v) ≡ Ok (bs ++ v)
+bytes_read : (bs v : List ℕ) → All (λ b. b < 2 ^ 8) v → length bs + length v ≤ longest → bytes_in bs (map hex_byte v) ≡ Ok (bs ++ v)
 bytes_read bs [] small fits = rw append-nil
 bytes_read bs (b ∷ v) small fits =
     let room : eqb (length bs) longest ≡ false = ne_eqb _ _ (λ e. omega arith) in
@@ -85,7 +86,7 @@ bytes_read bs (b ∷ v) small fits =
     let first = byte_read b (All-head (λ c. c < 2 ^ 8) b v small) in
     rw (first, room) (bytes_read (bs ++ b ∷ []) v (All-tail (λ c. c < 2 ^ 8) b v small) fewer ∙ ap Ok (append_assoc bs (b ∷ []) v))
 
-value_read : (v : List ℕ) → All (λ b. b < 2 ^ 8) v → 0 < length v → length v ≤ longest → value_in (map byte_written v) ≡ Ok v
+value_read : (v : List ℕ) → All (λ b. b < 2 ^ 8) v → 0 < length v → length v ≤ longest → value_in (map hex_byte v) ≡ Ok v
 value_read [] small some fits = absurd (omega arith)
 value_read (b ∷ v) small some fits = bytes_read [] (b ∷ v) small (omega arith)
 
@@ -94,7 +95,7 @@ bytes_light : (v : List ℕ) → All (λ c. 32 ≤ c) (bytes_written v)
 bytes_light [] = All-nil (λ c. 32 ≤ c)
 bytes_light (b ∷ v) =
     let Light : ℕ → Type 0 = λ c. 32 ≤ c in
-    All-cons Light 32 (byte_written b ++ bytes_written v) (omega arith) (All-append Light (byte_written b) (bytes_written v) (lighter (byte_written b) (byte_dark b)) (bytes_light v))
+    All-cons Light 32 (hex_byte b ++ bytes_written v) (omega arith) (All-append Light (hex_byte b) (bytes_written v) (lighter (hex_byte b) (byte_dark b)) (bytes_light v))
 
 order_light : (m : Multiplexor) (v : List ℕ) → All (λ c. 32 ≤ c) (multiplexor_written m ++ bytes_written v)
 order_light m v = All-append (λ c. 32 ≤ c) (multiplexor_written m) (bytes_written v) (lighter (multiplexor_written m) (multiplexor_dark m)) (bytes_light v)
@@ -133,7 +134,7 @@ multiplexor_unnamed m h =
     let b : eqb (digit_for (m.index / 256 / 16)) 98 ≡ false = ne_eqb _ _ (λ e. omega arith) in rw (e, s, b)
 
 -- the words of an order without the name of a transfer, and with it
-words_unnamed : (m : Multiplexor) (v : List ℕ) → words (multiplexor_written m ++ bytes_written v) ≡ multiplexor_written m ∷ map byte_written v
+words_unnamed : (m : Multiplexor) (v : List ℕ) → words (multiplexor_written m ++ bytes_written v) ≡ multiplexor_written m ∷ map hex_byte v
 words_unnamed m v = words-written _ _ v (All-weaker (λ c. 48 ≤ c) (λ c. is_blank c ≡ false) dark (multiplexor_written m) (multiplexor_dark m))
 
 words_named : (t : Transfer) (line : List ℕ) → words (named_before (Some t) line) ≡ name_of t ∷ words line
@@ -142,17 +143,17 @@ words_named Segmented line = words_first 115 (codes "egmented") line (name_whole
 words_named Block line = words_first 98 (codes "lock") line (name_whole Block)
 
 -- what the words of an order mean, whose transfer is named or not
-rest_read : (named : Option Transfer) (m : Multiplexor) (v : List ℕ) → Sound named m v → order_behind named (multiplexor_written m ∷ map byte_written v) ≡ ordered (transfer_for named v) m v
+rest_read : (named : Option Transfer) (m : Multiplexor) (v : List ℕ) → Sound named m v → order_behind named (multiplexor_written m ∷ map hex_byte v) ≡ ordered (transfer_for named v) m v
 rest_read named m v sound =
-    ap (λ o. order_at named o (map byte_written v)) (multiplexor-read m sound.index sound.subindex)
+    ap (λ o. order_at named o (map hex_byte v)) (multiplexor-read m sound.index sound.subindex)
     ∙ ap (order_of named m) (value_read v sound.bytes sound.some sound.most)
     ∙ ap (λ b. cond b (ordered (transfer_for named v) m v) (faulty NotExpedited)) sound.room
 
 words_read : (named : Option Transfer) (m : Multiplexor) (v : List ℕ) → Sound named m v → order_in (words (written named m v)) ≡ ordered (transfer_for named v) m v
-words_read None m v sound = ap order_in (words_unnamed m v) ∙ ap (λ n. order_from n (multiplexor_written m) (map byte_written v)) (multiplexor_unnamed m sound.index) ∙ rest_read None m v sound
+words_read None m v sound = ap order_in (words_unnamed m v) ∙ ap (λ n. order_from n (multiplexor_written m) (map hex_byte v)) (multiplexor_unnamed m sound.index) ∙ rest_read None m v sound
 words_read (Some t) m v sound =
     ap order_in (words_named t (multiplexor_written m ++ bytes_written v) ∙ ap (λ ws. name_of t ∷ ws) (words_unnamed m v))
-    ∙ ap (λ n. order_from n (name_of t) (multiplexor_written m ∷ map byte_written v)) (name_read t)
+    ∙ ap (λ n. order_from n (name_of t) (multiplexor_written m ∷ map hex_byte v)) (name_read t)
     ∙ rest_read (Some t) m v sound
 
 -- an order's line is no comment

@@ -3,7 +3,8 @@ use Rattle.std.proofs.Common.{◌≡◌, ℕ, ◌+◌, ◌*◌, ◌/◌, ◌%◌
 use Rattle.std.proofs.lemmas.Bool.Decides.{nat_tests}
 use Rattle.wire.specs.declared.multiplexor.Multiplexor.{Multiplexor}
 use Rattle.orders.specs.Hex.{hex_digit, byte_of, byte_in, multiplexor_in}
-use Rattle.orders.specs.Written.{digit_for, byte_written, multiplexor_written}
+use Rattle.wire.specs.Texts.{hex_digit as digit_for, hex_byte}
+use Rattle.orders.specs.Written.{multiplexor_written}
 
 pub digit_above : (d : ℕ) → 48 ≤ digit_for d
 digit_above d = grind (arith, nat_tests)
@@ -21,7 +22,7 @@ byte_digits b h =
     let whole : b / 16 * 16 + b % 16 ≡ b = omega arith in
     rw (high, low) (ap Some whole)
 
-pub byte_read : (b : ℕ) → b < 2 ^ 8 → byte_in (byte_written b) ≡ Some b
+pub byte_read : (b : ℕ) → b < 2 ^ 8 → byte_in (hex_byte b) ≡ Some b
 byte_read b h = byte_digits b h
 
 pub multiplexor-read : (m : Multiplexor) → m.index < 2 ^ 16 → m.subindex < 2 ^ 8 → multiplexor_in (multiplexor_written m) ≡ Some m

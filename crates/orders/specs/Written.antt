@@ -1,6 +1,7 @@
 -- Orders as text in one plain form: a transfer and a blank, or neither; digits in capitals, one blank before each byte, a line end (10) after each order.
 -- A line and a text in this form are read as the orders that they were written from.
-use Rattle.std.specs.Prelude.{◌≡◌, ℕ, ◌+◌, ◌/◌, ◌%◌, ◌^◌, ◌<◌, ◌≤◌, cond, true, List, [], ◌∷◌, ◌++◌, map, length, Some, None, Option, nat_lt, All}
+use Rattle.std.specs.Prelude.{◌≡◌, ℕ, ◌/◌, ◌%◌, ◌^◌, ◌<◌, ◌≤◌, true, List, [], ◌∷◌, ◌++◌, map, flat_map, length, codes, Some, None, Option, All}
+use Rattle.wire.specs.Texts.{hex_byte}
 use Rattle.wire.specs.declared.multiplexor.Multiplexor.{Multiplexor}
 use Rattle.orders.specs.declared.transfer.Transfer.{Transfer}
 use Rattle.orders.specs.Lines.{longest, ordered, line_meaning}
@@ -8,20 +9,18 @@ use Rattle.orders.specs.Pieces.{lines}
 use Rattle.orders.specs.Texts.{orders_in, bad_in}
 use Rattle.orders.specs.Transfers.{name_of, transfer_for, takes}
 
--- 48 is '0', 65 is 'A'
-abbrev pub digit_for : ℕ → ℕ
-digit_for d = cond (nat_lt d 10) (48 + d) (55 + d)
-
-abbrev pub byte_written : ℕ → List ℕ
-byte_written b = digit_for (b / 16) ∷ digit_for (b % 16) ∷ []
-
+-- bytes, with a blank before each
 abbrev pub bytes_written : List ℕ → List ℕ
-bytes_written [] = []
-bytes_written (b ∷ bs) = 32 ∷ byte_written b ++ bytes_written bs
+bytes_written bs = flat_map (λ b. codes " " ++ hex_byte b) bs
+
+-- bytes, with a blank between two
+abbrev pub bytes_alone : List ℕ → List ℕ
+bytes_alone [] = []
+bytes_alone (b ∷ bs) = hex_byte b ++ bytes_written bs
 
 -- IIII:SS (58 is ':')
 abbrev pub multiplexor_written : Multiplexor → List ℕ
-multiplexor_written m = byte_written (m.index / 256) ++ byte_written (m.index % 256) ++ 58 ∷ byte_written m.subindex
+multiplexor_written m = hex_byte (m.index / 256) ++ hex_byte (m.index % 256) ++ 58 ∷ hex_byte m.subindex
 
 -- a line with the name of a transfer before it, where one is named
 abbrev pub named_before : Option Transfer → List ℕ → List ℕ

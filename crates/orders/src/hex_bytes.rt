@@ -1,4 +1,7 @@
 //! Bytes as text.
+ghost use Rattle.std.specs.Prelude.{Some};
+ghost use Rattle.orders.specs.Written.{bytes_alone};
+
 use std::fmt;
 use wire::Hex;
 
@@ -7,13 +10,14 @@ use wire::Hex;
 pub struct HexBytes<'a>(pub &'a [u8]);
 
 impl fmt::Display for HexBytes<'_> {
+    ghost output = { λ x. Some (bytes_alone x.0.now) };
+
     fn fmt<W: fmt::Write>(&self, f: &mut fmt::Formatter<W>) -> fmt::Result {
-        for (i, byte) in self.0.iter().enumerate() {
-            if i > 0 {
-                f.write_str(" ")?;
+        if let [first, rest @ ..] = self.0 {
+            write!(f, "{}", Hex(*first))?;
+            for byte in rest {
+                write!(f, " {}", Hex(*byte))?;
             }
-            let byte = Hex(*byte);
-            write!(f, "{byte}")?;
         }
         Ok(())
     }
