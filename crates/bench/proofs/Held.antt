@@ -9,22 +9,20 @@ use Rattle.master.specs.declared.phase.Awaiting.{Awaiting}
 use Rattle.master.specs.declared.refusal.BeginRefusal.{BeginRefusal}
 use Rattle.master.specs.States as master
 use Rattle.master.specs.States.{number_unless_idle, uncleared, clear}
-use Rattle.master.specs.Steps.{Step, found, told}
+use Rattle.master.specs.Steps.{Step, found, abort_heard}
 use Rattle.master.specs.Calls.{Order, free, start, begin_if, begin, tick, give_up}
 use Rattle.master.proofs.Outcomes.{by_phase, Outcome, goes_on, ended, was_told, succeeded, HeardAs, stays, answers, hear_outcome, waits_on, waits_out}
-use Rattle.report.specs.declared.refusal.SettleRefusal.{SettleRefusal}
 use Rattle.report.specs.declared.report.Report.{Report}
-use Rattle.report.specs.declared.direction.Direction.{Direction}
-use Rattle.law.specs.States.{State}
-use Rattle.law.specs.Calls.{direction_of, ticket_number, begun_as, begin_answer, begin_step, hear_step, serve_step, tick_step, settled_by, settle_answer, settle_step}
-use Rattle.bench.specs.Answers.{held_after}
+use Rattle.bench.specs.Model.States.{State}
+use Rattle.bench.specs.Model.Calls.{ticket_number, begun_as, begin_answer, begin_step, hear_step, serve_step, tick_step, settled_by, settle_answer, settle_step}
+use Rattle.bench.specs.Tickets.{held_after}
 
 -- a begin that is not refused puts its own ticket out, and one that is refused changes nothing
-begun_held : (r : Result (Unit {0}) BeginRefusal) (q : Result Request BeginRefusal) (w : Direction) (ls : List Bool) (s : State) (m : Multiplexor) (o : Order)
-    → held_after (ticket_number (begin_if r q s.master m o).answer) (uncleared s.master) ≡ uncleared (begun_as (begin_if r q s.master m o).answer (begin_if r q s.master m o).next w ls s).master
-begun_held (Err e) q w ls s m o = refl
-begun_held (Ok x) (Err e) w ls s m o = refl
-begun_held (Ok x) (Ok q) w ls s m o = refl
+begun_held : (r : Result (Unit {0}) BeginRefusal) (q : Result Request BeginRefusal) (ls : List Bool) (s : State) (m : Multiplexor) (o : Order)
+    → held_after (ticket_number (begin_if r q s.master m o).answer) (uncleared s.master) ≡ uncleared (begun_as (begin_if r q s.master m o).answer (begin_if r q s.master m o).next ls s).master
+begun_held (Err e) q ls s m o = refl
+begun_held (Ok x) (Err e) ls s m o = refl
+begun_held (Ok x) (Ok q) ls s m o = refl
 
 pub begin_holds : (m : Multiplexor) (o : Order) (r : Result ℕ BeginRefusal) (held now : Option ℕ) (s t : State) → held ≡ uncleared s.master → now ≡ held_after r held → r ≡ begin_answer m o s → (ls : List Bool) × (t ≡ begin_step m o ls s) → now ≡ uncleared t.master
 unfolding begin begin_step
@@ -32,7 +30,7 @@ begin_holds m o r held now s t out is answer after =
     is
     ∙ ap (λ h. held_after r h) out
     ∙ ap (λ x. held_after x (uncleared s.master)) answer
-    ∙ begun_held (free s.master) (start m o) (direction_of o) after.0 s m o
+    ∙ begun_held (free s.master) (start m o) after.0 s m o
     ∙ ap (λ u. uncleared u.master) (sym after.1)
 
 pub serve_holds : (held : Option ℕ) (s t : State) → held ≡ uncleared s.master → (lost : Bool) × (t ≡ serve_step lost s) → held ≡ uncleared t.master
@@ -41,7 +39,7 @@ serve_holds held s t out after = out ∙ ap (λ u. uncleared u.master) (sym afte
 
 -- an answer ends the transfer or not, and its ticket stays out
 held_answered : {s : master.State} {w : Awaiting} {o : Option sdo.Answer} {p : Step} → Outcome s w o p → Some s.begun ≡ uncleared p.next
-unfolding found told
+unfolding found abort_heard
 held_answered (goes_on u h v fs some paid) = refl
 held_answered (ended c) = refl
 held_answered (was_told c) = refl
@@ -79,12 +77,5 @@ pub settled_holds : (k : ℕ) (buffer : List ℕ) (r : Report) (s t : State) →
 unfolding settle_step
 settled_holds k buffer r s t answer after =
     cleared s.master
-    ∙ ap (λ a. uncleared (settled_by a after.0 s).master) answer
-    ∙ ap (λ u. uncleared u.master) (sym after.1)
-
-pub refused_holds : (k : ℕ) (buffer : List ℕ) (e : SettleRefusal) (held : Option ℕ) (s t : State) → held ≡ uncleared s.master → Err e ≡ settle_answer k buffer s → (ls : List Bool) × (t ≡ settle_step k buffer ls s) → held ≡ uncleared t.master
-unfolding settle_step
-refused_holds k buffer e held s t out answer after =
-    out
     ∙ ap (λ a. uncleared (settled_by a after.0 s).master) answer
     ∙ ap (λ u. uncleared u.master) (sym after.1)

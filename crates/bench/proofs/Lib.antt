@@ -1,5 +1,8 @@
+pub mod Law
 pub mod Beginning
 pub mod Held
+pub mod Owning
+pub mod Rooms
 pub mod Numbers
 pub mod Sending
 pub mod Settling

@@ -1,3 +1,5 @@
+pub mod Model
+pub mod Law
 pub mod Answers
 pub mod Numbers
 pub mod States

@@ -2,9 +2,8 @@
 use Rattle.std.specs.Prelude.{List}
 use Rattle.line.specs.Meanings.{Meaning}
 use Rattle.dictionary.specs.Entries.{Entry}
-use Rattle.master.specs.States as master
 use Rattle.node.specs.Nodes.{shown}
-use Rattle.law.specs.States.{State}
+use Rattle.bench.specs.Model.States.{State}
 use Rattle.bench.specs.declared.bench.Bench.{Bench}
 
 module _ {L D : Type 0} where
@@ -14,8 +13,5 @@ module _ {L D : Type 0} where
   abbrev pub dictionary_of : Bench L D → D
   dictionary_of b = b.dictionary
 
-  abbrev pub master_of : Bench L D → master.State
-  master_of b = b.master
-
   abbrev pub state_of : (L → Meaning) → (D → List Entry) → Bench L D → State
-  state_of shows meaning b = record { line = shows (line_of b); dictionary = meaning (dictionary_of b); master = b.master; node = shown b.node; direction = b.direction }
+  state_of shows meaning b = record { line = shows (line_of b); dictionary = meaning (dictionary_of b); master = b.master; node = shown b.node }

@@ -1,23 +1,26 @@
 //! A bench: one master and one node, what joins them, and the node's dictionary.
 ghost use Rattle.std.specs.Prelude.{◌≡◌};
-ghost use Rattle.law.specs.States.{fresh};
+ghost use Rattle.bench.specs.Model.States.{fresh};
 ghost use Rattle.bench.specs.Numbers.{nearest_number, nearest_size};
 ghost use Rattle.bench.specs.States.{line_of, dictionary_of, state_of};
 
+use crate::response::Ticked;
+use crate::steppable::Steppable;
+use crate::ticket::Ticket;
+use beginning::start;
 use dictionary::Writable;
-use line::Line;
-use master::Master;
-use node::Node;
-use report::Direction;
+use line::{End, Line};
+use master::{BeginRefusal, Heard, Master, Method};
+use node::{Node, Served};
+use report::{Report, SettleRefusal};
 use sdo::BlockSize;
-use wire::NodeNumber;
+use sending::{carry_out, reply};
+use settling::fill;
+use wire::{LONGEST, Multiplexor, NodeNumber};
 
 mod beginning;
-mod hearing;
 mod sending;
-mod serving;
 mod settling;
-mod ticking;
 
 /// A bench owns its line and its dictionary: nothing else reaches them.
 #[derive(Drop)]
@@ -26,7 +29,6 @@ pub struct Bench<L: Line, D: Writable> {
     dictionary: D,
     master: Master,
     node: Node,
-    direction: Direction,
 }
 
 impl<L: Line, D: Writable> Bench<L, D> {
@@ -41,28 +43,95 @@ impl<L: Line, D: Writable> Bench<L, D> {
             dictionary,
             master: Master::new(number),
             node: Node::new(number, BlockSize::nearest(block_size)),
-            direction: Direction::Upload,
         }
     }
+}
 
-    /// The line.
-    pub fn line(&self) -> &L
-        ensures { result.now ≡ line_of self.now }
-    {
+impl<L: Line, D: Writable> Steppable for Bench<L, D> {
+    type Line = L;
+
+    type Dictionary = D;
+
+    ghost state = { state_of L.Line.shows D.Readable.meaning };
+
+    ghost line = { line_of };
+
+    ghost dictionary = { dictionary_of };
+
+    fn line(&self) -> &L {
         &self.line
     }
 
-    /// The dictionary.
-    pub fn dictionary(&self) -> &D
-        ensures { result.now ≡ dictionary_of self.now }
-    {
+    fn dictionary(&self) -> &D {
         &self.dictionary
     }
 
-    /// How many values the node has set, modulo 65,536.
-    pub fn commits(&self) -> u16
-        ensures { result ≡ (state_of L.Line.shows D.Readable.meaning self.now).node.commits }
-    {
+    fn commits(&self) -> u16 {
         self.node.commits()
+    }
+
+    #[tactic(auto, unfolding(crate::specs::Model::Calls::begin_step))]
+    fn begin_read(&mut self, multiplexor: Multiplexor) -> Result<Ticket, BeginRefusal> {
+        let begun = self.master.begin_read(multiplexor)?;
+        Ok(start(&mut self.line, begun))
+    }
+
+    #[tactic(auto, unfolding(crate::specs::Model::Calls::begin_step))]
+    fn begin_write(
+        &mut self,
+        method: Method,
+        multiplexor: Multiplexor,
+        value: &[u8],
+    ) -> Result<Ticket, BeginRefusal> {
+        let begun = self.master.begin_write(method, multiplexor, value)?;
+        Ok(start(&mut self.line, begun))
+    }
+
+    #[tactic(auto, unfolding(crate::specs::Model::Calls::serve_step))]
+    fn serve(&mut self) -> Served {
+        let taken = self.line.take(End::Node);
+        let reaction = self.node.serve(&mut self.dictionary, taken);
+        reply(&mut self.line, reaction.reply);
+        reaction.served
+    }
+
+    #[tactic(auto, unfolding(crate::specs::Model::Calls::hear_step))]
+    fn hear(&mut self) -> Heard {
+        let taken = self.line.take(End::Master);
+        let hearing = self.master.hear(taken);
+        carry_out(&mut self.line, hearing.sending);
+        hearing.heard
+    }
+
+    #[tactic(auto, unfolding(crate::specs::Model::Calls::tick_step))]
+    fn tick(&mut self) -> Ticked {
+        let tick = self.master.tick();
+        let ended = tick.ended;
+        carry_out(&mut self.line, tick.sending);
+        let abort = self.node.tick();
+        reply(&mut self.line, abort);
+        Ticked { ended }
+    }
+
+    #[tactic(auto, unfolding(crate::specs::Model::Calls::settle_step))]
+    fn settle(
+        &mut self,
+        ticket: Ticket,
+        buffer: &mut [u8],
+    ) -> Result<Report, (Ticket, SettleRefusal)> {
+        if self.master.uncleared() != Some(ticket.number()) {
+            return Err((ticket, SettleRefusal::NotOut));
+        }
+        if buffer.len() < LONGEST {
+            return Err((ticket, SettleRefusal::ShortBuffer));
+        }
+        ticket.take_back();
+        let sending = self.master.give_up();
+        carry_out(&mut self.line, sending);
+        // Over by now: the ticket was out, and what was open is given up.
+        let report = self.report().unwrap();
+        fill(buffer, report, self.master.value());
+        self.master.clear();
+        Ok(report)
     }
 }

@@ -4,7 +4,7 @@ ghost use Rattle.std.specs.Prelude.{◌≡◌};
 use std::marker::Model;
 
 /// The number of a transfer that has to be settled. For other crates begin alone makes one, and settle alone takes it back.
-// Without Drop: a program that lets one go does not compile.
+/// It has no `Drop`, so that a program which lets one go does not compile.
 pub struct Ticket {
     number: u16,
 }

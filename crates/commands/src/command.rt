@@ -3,18 +3,11 @@ use crate::bench_order::BenchOrder;
 use master::Method;
 use wire::Multiplexor;
 
-/// A command.
+/// A command; some are calls that are made so many times.
 #[derive(Drop)]
 pub enum Command {
     /// Make the bench.
     Bench(BenchOrder),
-    /// Make a call of the bench, or ask it something.
-    Call(Call),
-}
-
-/// A call, so many times where it can be repeated.
-#[derive(Drop)]
-pub enum Call {
     Read(Multiplexor),
     Write(WriteOrder),
     Serve(u64),
@@ -22,7 +15,9 @@ pub enum Call {
     Tick(u64),
     /// The ticket of a number, or the one that is held, with a buffer of so many bytes.
     Settle { ticket: Option<u16>, room: u16 },
+    /// List the entries of the dictionary.
     Entries,
+    /// Tell how many values the node has set.
     Commits,
 }
 

@@ -1,11 +1,13 @@
 //! Commands read from lines.
-use crate::bench_order::{BenchOrder, DictionaryOrder, LineKind, LineOrder};
-use crate::command::{Call, Command, WriteOrder};
-use crate::fault::Fault;
+use crate::bench_order::BenchOrder;
+use crate::command::{Command, WriteOrder};
+use crate::device::DeviceKind;
+use crate::line_order::{LineKind, LineOrder};
+use crate::misread::Misread;
 use crate::numbers::{read_decimal, read_pattern};
-use master::Method;
-use orders::{read_byte, read_multiplexor};
+use orders::{read_byte, read_method, read_multiplexor, without_return};
 use std::alloc::Global;
+use wire::Multiplexor;
 
 /// The most calls that one line can ask for.
 const MOST_CALLS: u64 = 1000;
@@ -23,7 +25,11 @@ pub enum Settling {
 }
 
 /// The command on a line, or none on a line to pass over.
-pub fn read_line(heap: Global, settling: Settling, line: &[u8]) -> Result<Option<Command>, Fault> {
+pub fn read_line(
+    heap: Global,
+    settling: Settling,
+    line: &[u8],
+) -> Result<Option<Command>, Misread> {
     if line.starts_with(b"#") {
         return Ok(None);
     }
@@ -37,91 +43,68 @@ pub fn read_line(heap: Global, settling: Settling, line: &[u8]) -> Result<Option
     }
 }
 
-/// A line but for a carriage return at its end.
-fn without_return(line: &[u8]) -> &[u8] {
-    line.strip_suffix(b"\r").unwrap_or(line)
-}
-
 /// The command with a name and some arguments.
 fn read_command(
     heap: Global,
     settling: Settling,
     name: &[u8],
     arguments: &[&[u8]],
-) -> Result<Command, Fault> {
+) -> Result<Command, Misread> {
     if let b"write" = name {
-        return Ok(Command::Call(Call::Write(read_write(heap, arguments)?)));
+        return read_write(heap, arguments).map(Command::Write);
     }
-    if let b"bench" = name {
-        return read_bench(arguments)
-            .map(Command::Bench)
-            .ok_or(Fault::NotUnderstood);
-    }
-    read_call(settling, name, arguments)
-        .map(Command::Call)
-        .ok_or(Fault::NotUnderstood)
+    read_other(settling, name, arguments).ok_or(Misread::NotUnderstood)
 }
 
-/// The call, but for a write, with a name and some arguments.
-fn read_call(settling: Settling, name: &[u8], arguments: &[&[u8]]) -> Option<Call> {
+/// The command, but for a write, with a name and some arguments.
+fn read_other(settling: Settling, name: &[u8], arguments: &[&[u8]]) -> Option<Command> {
     match name {
-        b"read" => read_read(arguments),
-        b"serve" => read_times(arguments).map(Call::Serve),
-        b"hear" => read_times(arguments).map(Call::Hear),
-        b"tick" => read_times(arguments).map(Call::Tick),
+        b"bench" => read_bench(arguments).map(Command::Bench),
+        b"read" => read_read(arguments).map(Command::Read),
+        b"serve" => read_times(arguments).map(Command::Serve),
+        b"hear" => read_times(arguments).map(Command::Hear),
+        b"tick" => read_times(arguments).map(Command::Tick),
         b"settle" => read_settle(settling, arguments),
-        b"entries" if arguments.is_empty() => Some(Call::Entries),
-        b"commits" if arguments.is_empty() => Some(Call::Commits),
+        b"entries" if arguments.is_empty() => Some(Command::Entries),
+        b"commits" if arguments.is_empty() => Some(Command::Commits),
         _ => None,
     }
 }
 
 /// What a bench is to be made of.
 fn read_bench(arguments: &[&[u8]]) -> Option<BenchOrder> {
-    let [node, block_size, line, dictionary] = arguments else {
+    let [node, block_size, line, device] = arguments else {
         return None;
     };
     Some(BenchOrder {
         node: u8::try_from(read_decimal(node)?).ok()?,
         block_size: u8::try_from(read_decimal(block_size)?).ok()?,
         line: read_line_order(line)?,
-        dictionary: read_dictionary(dictionary)?,
+        device: DeviceKind::named(device)?,
     })
 }
 
-/// A line, with a drop layer on it or without.
+/// A line, with the pattern by which it loses frames or without.
 fn read_line_order(word: &[u8]) -> Option<LineOrder> {
-    let (below, rest) = if let Some(rest) = word.strip_prefix(b"memory") {
-        (LineKind::Memory, rest)
-    } else {
-        (LineKind::Mailbox, word.strip_prefix(b"mailbox")?)
+    let mut parts = word.splitn(2, |b| *b == b'+');
+    let kind = LineKind::named(parts.next()?)?;
+    let pattern = match parts.next() {
+        Some(layer) => read_pattern(layer.strip_prefix(b"drop:")?)?,
+        None => 0,
     };
-    let pattern = match rest {
-        [] => None,
-        layer => Some(read_pattern(layer.strip_prefix(b"+drop:")?)?),
-    };
-    Some(LineOrder { below, pattern })
-}
-
-/// A dictionary by its name.
-fn read_dictionary(word: &[u8]) -> Option<DictionaryOrder> {
-    match word {
-        b"sample" => Some(DictionaryOrder::Sample),
-        b"drive" => Some(DictionaryOrder::Drive),
-        _ => None,
-    }
+    Some(LineOrder { kind, pattern })
 }
 
 /// What is to be written, how and where.
-fn read_write(heap: Global, arguments: &[&[u8]]) -> Result<WriteOrder, Fault> {
+fn read_write(heap: Global, arguments: &[&[u8]]) -> Result<WriteOrder, Misread> {
     let [method, multiplexor, bytes @ ..] = arguments else {
-        return Err(Fault::NotUnderstood);
+        return Err(Misread::NotUnderstood);
     };
-    let method = read_method(method).ok_or(Fault::NotUnderstood)?;
-    let multiplexor = read_multiplexor(multiplexor).ok_or(Fault::NotUnderstood)?;
+    let method = read_method(method).ok_or(Misread::NotUnderstood)?;
+    let multiplexor = read_multiplexor(multiplexor).ok_or(Misread::NotUnderstood)?;
     let mut value = Vec::with_capacity(heap, bytes.len())?;
     for word in bytes {
-        value.push(read_byte(word).ok_or(Fault::NotUnderstood)?)?;
+        value.push(read_byte(word).ok_or(Misread::NotUnderstood)?)?;
     }
     Ok(WriteOrder {
         method,
@@ -130,20 +113,10 @@ fn read_write(heap: Global, arguments: &[&[u8]]) -> Result<WriteOrder, Fault> {
     })
 }
 
-/// A way to write by its name.
-fn read_method(word: &[u8]) -> Option<Method> {
-    match word {
-        b"expedited" => Some(Method::Expedited),
-        b"segmented" => Some(Method::Segmented),
-        b"block" => Some(Method::Block),
-        _ => None,
-    }
-}
-
-/// A read of what the only argument names.
-fn read_read(arguments: &[&[u8]]) -> Option<Call> {
+/// What the only argument names, to be read.
+fn read_read(arguments: &[&[u8]]) -> Option<Multiplexor> {
     match arguments {
-        [multiplexor] => read_multiplexor(multiplexor).map(Call::Read),
+        [multiplexor] => read_multiplexor(multiplexor),
         _ => None,
     }
 }
@@ -158,15 +131,15 @@ fn read_times(arguments: &[&[u8]]) -> Option<u64> {
 }
 
 /// A settle, by the ticket's number where a script names it.
-fn read_settle(settling: Settling, arguments: &[&[u8]]) -> Option<Call> {
+fn read_settle(settling: Settling, arguments: &[&[u8]]) -> Option<Command> {
     match settling {
-        Settling::Held => Some(Call::Settle {
+        Settling::Held => Some(Command::Settle {
             ticket: None,
             room: read_room(arguments)?,
         }),
         Settling::ByNumber => {
             let (ticket, rest) = arguments.split_first()?;
-            Some(Call::Settle {
+            Some(Command::Settle {
                 ticket: Some(read_short(ticket)?),
                 room: read_room(rest)?,
             })

@@ -1,20 +1,15 @@
 //! The calls of a script, carried out and printed.
-use crate::lines::{Lines, command_on, print_not_understood};
+use crate::lines::{Lines, command_on};
+use bench::Steppable;
 use commands::{
-    Call, Command, WriteOrder, heard_words, print_begun, print_entries, print_settled,
-    served_words, tick_words,
+    Begun, BenchSession, Command, NotUnderstood, RecordedLine, Settled, WriteOrder, heard_words,
+    print_entries, served_words, tick_words,
 };
-use dictionary::Writable;
 use line::Recording;
-use session::{LONGEST, Session};
-use wire::Multiplexor;
+use wire::{LONGEST, Multiplexor};
 
 /// Carries out all calls of a script, and settles the ticket that is then held.
-pub fn run_calls<L: Recording + Drop, D: Writable + Drop>(
-    rt: &HostRuntime,
-    lines: Lines,
-    mut session: Session<L, D>,
-) -> anyhow::Result<()> {
+pub fn run_calls(rt: &HostRuntime, lines: Lines, mut session: BenchSession) -> anyhow::Result<()> {
     let run = run_lines(rt, lines, &mut session);
     let ended = end(rt, session);
     run?;
@@ -22,84 +17,73 @@ pub fn run_calls<L: Recording + Drop, D: Writable + Drop>(
 }
 
 /// Carries out the calls of lines.
-fn run_lines<L: Recording + Drop, D: Writable + Drop>(
-    rt: &HostRuntime,
-    lines: Lines,
-    session: &mut Session<L, D>,
-) -> anyhow::Result<()> {
+fn run_lines(rt: &HostRuntime, lines: Lines, session: &mut BenchSession) -> anyhow::Result<()> {
     for (number, line) in lines {
-        match command_on(rt, number, &line?)? {
-            Some(Command::Call(call)) => carry_out(rt, session, call)?,
-            Some(Command::Bench(_)) => print_not_understood(rt, number)?,
-            None => {}
+        if let Some(command) = command_on(rt, number, &line?)? {
+            carry_out(rt, number, session, command)?;
         }
     }
     Ok(())
 }
 
 /// Settles the ticket that is held at the end of a script, if one is.
-fn end<L: Recording + Drop, D: Writable + Drop>(
-    rt: &HostRuntime,
-    session: Session<L, D>,
-) -> anyhow::Result<()> {
+fn end(rt: &HostRuntime, session: BenchSession) -> anyhow::Result<()> {
     let mut buffer = [0; LONGEST];
     let before = session.bench().line().sent();
-    let (bench, settled) = session.close(&mut buffer);
-    if let Some(settled) = settled {
-        print_settled(rt, settled, &buffer)?;
+    let (bench, report) = session.close(&mut buffer);
+    if let Some(report) = report {
+        let settled = Settled {
+            settled: Ok(report),
+            buffer: &buffer,
+        };
+        println!(rt; "{settled}")?;
     }
     print_frames(rt, bench.line(), before)
 }
 
-/// Carries out a call, and prints what came of it and the frames that were sent in it.
-fn carry_out<L: Recording + Drop, D: Writable + Drop>(
+/// Carries out the command on a line, and prints what came of it and the frames that were sent in it.
+fn carry_out(
     rt: &HostRuntime,
-    session: &mut Session<L, D>,
-    call: Call,
+    number: u64,
+    session: &mut BenchSession,
+    command: Command,
 ) -> anyhow::Result<()> {
-    match call {
-        Call::Read(multiplexor) => read(rt, session, multiplexor),
-        Call::Write(order) => write(rt, session, order),
-        Call::Serve(times) => serve(rt, session, times),
-        Call::Hear(times) => hear(rt, session, times),
-        Call::Tick(times) => tick(rt, session, times),
+    match command {
+        Command::Bench(_) => Ok(println!(rt; "{}", NotUnderstood(number))?),
+        Command::Read(multiplexor) => read(rt, session, multiplexor),
+        Command::Write(order) => write(rt, session, order),
+        Command::Serve(times) => serve(rt, session, times),
+        Command::Hear(times) => hear(rt, session, times),
+        Command::Tick(times) => tick(rt, session, times),
         // A script of the console names no ticket: it settles the one that is held.
-        Call::Settle { ticket: _, room } => settle(rt, session, usize::from(room)),
-        Call::Entries => Ok(print_entries(rt, session.bench().dictionary())?),
-        Call::Commits => print_commits(rt, session.bench().commits()),
+        Command::Settle { ticket: _, room } => settle(rt, session, usize::from(room)),
+        Command::Entries => Ok(print_entries(rt, session.bench().dictionary())?),
+        Command::Commits => print_commits(rt, session.bench().commits()),
     }
 }
 
 /// Begins a read.
-fn read<L: Recording + Drop, D: Writable + Drop>(
+fn read(
     rt: &HostRuntime,
-    session: &mut Session<L, D>,
+    session: &mut BenchSession,
     multiplexor: Multiplexor,
 ) -> anyhow::Result<()> {
     let before = session.bench().line().sent();
-    let begun = session.begin_read(multiplexor);
-    print_begun(rt, begun)?;
+    let begun = Begun(session.begin_read(multiplexor));
+    println!(rt; "{begun}")?;
     print_frames(rt, session.bench().line(), before)
 }
 
 /// Begins a write.
-fn write<L: Recording + Drop, D: Writable + Drop>(
-    rt: &HostRuntime,
-    session: &mut Session<L, D>,
-    order: WriteOrder,
-) -> anyhow::Result<()> {
+fn write(rt: &HostRuntime, session: &mut BenchSession, order: WriteOrder) -> anyhow::Result<()> {
     let before = session.bench().line().sent();
-    let begun = session.begin_write(order.method, order.multiplexor, &order.value);
-    print_begun(rt, begun)?;
+    let begun = Begun(session.begin_write(order.method, order.multiplexor, &order.value));
+    println!(rt; "{begun}")?;
     print_frames(rt, session.bench().line(), before)
 }
 
 /// Lets the node take frames, so many times.
-fn serve<L: Recording + Drop, D: Writable + Drop>(
-    rt: &HostRuntime,
-    session: &mut Session<L, D>,
-    times: u64,
-) -> anyhow::Result<()> {
+fn serve(rt: &HostRuntime, session: &mut BenchSession, times: u64) -> anyhow::Result<()> {
     for _ in 0..times {
         let before = session.bench().line().sent();
         let words = served_words(session.serve());
@@ -110,11 +94,7 @@ fn serve<L: Recording + Drop, D: Writable + Drop>(
 }
 
 /// Lets the master take frames, so many times.
-fn hear<L: Recording + Drop, D: Writable + Drop>(
-    rt: &HostRuntime,
-    session: &mut Session<L, D>,
-    times: u64,
-) -> anyhow::Result<()> {
+fn hear(rt: &HostRuntime, session: &mut BenchSession, times: u64) -> anyhow::Result<()> {
     for _ in 0..times {
         let before = session.bench().line().sent();
         let words = heard_words(session.hear());
@@ -125,14 +105,10 @@ fn hear<L: Recording + Drop, D: Writable + Drop>(
 }
 
 /// Lets ticks pass, so many.
-fn tick<L: Recording + Drop, D: Writable + Drop>(
-    rt: &HostRuntime,
-    session: &mut Session<L, D>,
-    times: u64,
-) -> anyhow::Result<()> {
+fn tick(rt: &HostRuntime, session: &mut BenchSession, times: u64) -> anyhow::Result<()> {
     for _ in 0..times {
         let before = session.bench().line().sent();
-        let words = tick_words(session.tick());
+        let words = tick_words(session.tick().ended);
         println!(rt; "tick: {words}")?;
         print_frames(rt, session.bench().line(), before)?;
     }
@@ -140,15 +116,14 @@ fn tick<L: Recording + Drop, D: Writable + Drop>(
 }
 
 /// Settles the ticket that is held, with a buffer of some size.
-fn settle<L: Recording + Drop, D: Writable + Drop>(
-    rt: &HostRuntime,
-    session: &mut Session<L, D>,
-    size: usize,
-) -> anyhow::Result<()> {
+fn settle(rt: &HostRuntime, session: &mut BenchSession, size: usize) -> anyhow::Result<()> {
     let mut buffer = vec![in rt.alloc(); 0u8; size]?;
     let before = session.bench().line().sent();
     match session.settle(&mut buffer) {
-        Some(settled) => print_settled(rt, settled, &buffer)?,
+        Some(settled) => {
+            let buffer = &buffer;
+            println!(rt; "{}", Settled { settled, buffer })?;
+        }
         None => println!(rt; "settle: no ticket")?,
     }
     print_frames(rt, session.bench().line(), before)
@@ -161,7 +136,7 @@ fn print_commits(rt: &HostRuntime, commits: u16) -> anyhow::Result<()> {
 }
 
 /// Prints the frames that were sent on a line after so many others.
-fn print_frames<L: Recording>(rt: &HostRuntime, line: &L, before: u64) -> anyhow::Result<()> {
+fn print_frames(rt: &HostRuntime, line: &RecordedLine, before: u64) -> anyhow::Result<()> {
     for sent in line.since(before) {
         let frame = sent.frame;
         println!(rt; "  {frame}")?;

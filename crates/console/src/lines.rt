@@ -1,5 +1,5 @@
 //! The lines of a script.
-use commands::{Command, Fault, Settling, read_line};
+use commands::{Command, Misread, NotUnderstood, Settling, read_line};
 use std::alloc::AllocError;
 use std::io;
 use std::io::{BufRead, BufReader, Split, StdinLock};
@@ -19,15 +19,10 @@ pub fn lines(rt: &HostRuntime) -> io::Result<Lines> {
 pub fn command_on(rt: &HostRuntime, number: u64, line: &[u8]) -> anyhow::Result<Option<Command>> {
     match read_line(rt.alloc(), Settling::Held, line) {
         Ok(command) => Ok(command),
-        Err(Fault::NotUnderstood) => {
-            print_not_understood(rt, number)?;
+        Err(Misread::NotUnderstood) => {
+            println!(rt; "{}", NotUnderstood(number))?;
             Ok(None)
         }
-        Err(Fault::OutOfMemory) => Err(AllocError.into()),
+        Err(Misread::OutOfMemory) => Err(AllocError.into()),
     }
-}
-
-/// Prints that a line is no command, or none that can stand there.
-pub fn print_not_understood(rt: &HostRuntime, number: u64) -> io::Result<()> {
-    println!(rt; "line {number}: not understood")
 }

@@ -5,7 +5,8 @@ mod calls;
 mod lines;
 mod start;
 
-use anyhow::ensure;
+use anyhow::anyhow;
+use commands::asks_for_help;
 use lines::lines;
 use start::run_script;
 use std::env;
@@ -59,19 +60,11 @@ fn main(rt: HostRuntime) -> anyhow::Result<ExitCode> {
 }
 
 fn run(rt: &HostRuntime) -> anyhow::Result<()> {
-    if asks_for_help(rt)? {
+    let arguments: Vec<String> = env::args(rt)?.skip(1).collect(rt.alloc())?;
+    let words: Vec<&str> = arguments.iter().map(|a| a.as_str()).collect(rt.alloc())?;
+    if asks_for_help(&words).map_err(|unknown| anyhow!("{unknown}"))? {
         rt.println(HELP)?;
         return Ok(());
     }
     run_script(rt, lines(rt)?)
-}
-
-/// Whether the arguments ask for help; any other argument is an error.
-fn asks_for_help(rt: &HostRuntime) -> anyhow::Result<bool> {
-    let mut asked = false;
-    for argument in env::args(rt)?.skip(1) {
-        asked = matches!(argument.as_str(), "--help" | "-h");
-        ensure!(asked, "unknown argument {argument}, try --help");
-    }
-    Ok(asked)
 }

@@ -4,6 +4,8 @@
 mod laws;
 mod register;
 mod table;
+#[cfg(test)]
+mod tests;
 
 pub use laws::known_values;
 pub use register::checksum;

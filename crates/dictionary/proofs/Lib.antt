@@ -1,10 +1,10 @@
 pub mod Appending
 pub mod Bounds
+pub mod Copying
 pub mod Deciding
 pub mod Finding
 pub mod Laying
 pub mod Lengths
-pub mod Order
 pub mod Overwriting
 pub mod Presence
 pub mod Setting

@@ -1,6 +1,5 @@
 -- The verdict on a write's start: by the entry's attributes, and against the verdict on the write.
-use Rattle.std.proofs.Common.{◌≡◌, ℕ, Bool, true, false, List, [], ◌∷◌, ◌++◌, length, Some, None, Ok, Err, Option, refl, ap, ◌∙◌, arith}
-use Rattle.std.proofs.lemmas.Bool.Decides.{nat_tests}
+use Rattle.std.proofs.Common.{◌≡◌, ℕ, Bool, true, false, List, [], ◌∷◌, ◌++◌, length, Some, None, Ok, Option, refl, ap, ◌∙◌, arith}
 use Rattle.wire.specs.declared.multiplexor.Multiplexor.{Multiplexor}
 use Rattle.wire.specs.declared.abort_code.AbortCode.{AbortCode}
 use Rattle.dictionary.specs.declared.attributes.Attributes.{Attributes}
@@ -36,10 +35,3 @@ module _ (d : List Entry) (m : Multiplexor) (size : Option ℕ) where
 
   pub start-there : (a : Attributes) → Ok a ≡ attributes d m → start_verdict d m size ≡ start_objection a size
   start-there a e = found (entry_at m d) refl a e
-
-  missing : (o : Option Entry) → entry_at m d ≡ o → (c : AbortCode) → Err c ≡ attributes_or (absence d m) o → start_verdict d m size ≡ Some c
-  missing None h c e = let same : absence d m ≡ c = cc in grind (arith, nat_tests, h, same)
-  missing (Some x) h c e = let z : ◌≡◌ {A = ℕ} 0 1 = cc in absurd (omega arith)
-
-  pub start-missing : (c : AbortCode) → Err c ≡ attributes d m → start_verdict d m size ≡ Some c
-  start-missing c e = missing (entry_at m d) refl c e

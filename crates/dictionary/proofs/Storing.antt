@@ -16,7 +16,7 @@ use Rattle.dictionary.proofs.Overwriting.{take-overwritten, read-overwritten, dr
 
 -- a row with another length in use
 abbrev pub resized : ℕ → Row → Row
-resized n r = record { multiplexor = r.multiplexor; attributes = r.attributes; start = r.start; length = n }
+resized n r = record r { length = n }
 
 leads-resized : (n : ℕ) (r : Row) (rs : List Row) → leads (resized n r) rs ≡ leads r rs
 leads-resized n r [] = refl

@@ -7,7 +7,7 @@ use Rattle.wire.specs.Multiplexors.{same, before}
 use Rattle.dictionary.specs.Entries.{Entry, Leads, Lawful, entry_at}
 use Rattle.dictionary.specs.Laws.{There, Next, NextFound, NextNone, OneEntry}
 use Rattle.dictionary.specs.Verdicts.{is_there}
-use Rattle.dictionary.proofs.Order.{same_equal, same_itself, before-before, before_apart}
+use Rattle.wire.proofs.Multiplexors.{same_equal, same_itself, before-before, before_apart}
 use Rattle.dictionary.proofs.Presence.{passed}
 
 -- what stands in a list stands at its first entry or in the rest

@@ -43,7 +43,7 @@ has_index i (e ∷ es) = cond (e.at.index == i) true (has_index i es)
 
 -- an entry with another value
 abbrev pub with_value : List ℕ → Entry → Entry
-with_value v e = record { at = e.at; access = e.access; shortest = e.shortest; longest = e.longest; value = v; admits = e.admits }
+with_value v e = record e { value = v }
 
 -- the list with a value set at a multiplexor, and nothing else changed
 abbrev pub put : Multiplexor → List ℕ → List Entry → List Entry

@@ -1,6 +1,6 @@
 -- What a table means: the entries of its rows. And what it tells of an entry that is looked for.
 use Rattle.std.specs.Prelude.{◌≡◌, ℕ, ◌+◌, ◌<◌, ◌≤◌, List, length, Some, None}
-use Rattle.std.proofs.Common.{arith}
+use Rattle.std.proofs.Math.Nat.{le_refl}
 use Rattle.wire.specs.declared.multiplexor.Multiplexor.{Multiplexor}
 use Rattle.wire.specs.declared.abort_code.AbortCode.{AbortCode}
 use Rattle.dictionary.specs.declared.table.Table.{Table}
@@ -14,7 +14,7 @@ abbrev pub table_entries : Table → List Entry
 table_entries t = entries t.bytes.items t.rows.items
 
 pub table_lawful : (t : Table) → Lawful (table_entries t)
-table_lawful t = entries_lawful t.bytes.items 0 t.rows.items (length t.bytes.items) (omega arith) t.layout
+table_lawful t = entries_lawful t.bytes.items 0 t.rows.items (length t.bytes.items) (le_refl (length t.bytes.items)) t.layout
 
 -- the entry at a multiplexor stands at a place, and is that of the row there
 pub record Stands (t : Table) (m : Multiplexor) (i : ℕ) : Type 0 where

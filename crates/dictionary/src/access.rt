@@ -11,7 +11,6 @@ pub enum Access {
 
 impl Access {
     /// Whether a value may be read.
-    // Two functions for the two rights: one would take a right, an enum of its own, and say no more.
     pub fn reads(self) -> bool
         ensures { result ≡ reads self }
     {

@@ -3,6 +3,7 @@
 
 mod access;
 mod attributes;
+mod front;
 mod laws;
 mod readable;
 mod refusal;
@@ -14,7 +15,8 @@ mod writable;
 
 pub use access::Access;
 pub use attributes::Attributes;
-pub use laws::dictionary_laws;
+pub use front::copy_to_front;
+pub use laws::{dictionary_laws, multiplexors_ordered};
 pub use readable::Readable;
 pub use refusal::{AddRefusal, CopyRefusal};
 pub use samples::sample;

@@ -1,6 +1,6 @@
 //! Why a call on a dictionary was turned away, with the numbers of docs/refusals.md.
 ghost use Rattle.std.specs.Prelude.{◌≡◌};
-ghost use Rattle.dictionary.specs.Refusals.{add_number, copy_number};
+ghost use Rattle.dictionary.specs.Refusals.{add_number, copy_number, code_of};
 ghost use Rattle.dictionary.specs.declared.refusal.CopyRefusal.TheVariants.{Verdict};
 
 use wire::AbortCode;
@@ -38,7 +38,6 @@ pub enum CopyRefusal {
 
 impl CopyRefusal {
     /// The refusal's number, 12; a verdict is told by its code and has none.
-    // No conversion: From gives a number for each value, and a verdict has none.
     pub fn number(self) -> Option<u8>
         ensures { result ≡ copy_number self }
     {
@@ -55,5 +54,17 @@ impl From<AbortCode> for CopyRefusal {
 
     fn from(code: AbortCode) -> CopyRefusal {
         CopyRefusal::Verdict(code)
+    }
+}
+
+/// What a master is told of a value that was not copied: the verdict, or that the memory does not suffice.
+impl From<CopyRefusal> for AbortCode {
+    ghost from_gives = { λ refusal code. code ≡ code_of refusal };
+
+    fn from(refusal: CopyRefusal) -> AbortCode {
+        match refusal {
+            CopyRefusal::Verdict(verdict) => verdict,
+            CopyRefusal::ShortBuffer => AbortCode::OutOfMemory,
+        }
     }
 }

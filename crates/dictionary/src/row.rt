@@ -1,6 +1,6 @@
 //! Where a table keeps one entry.
 ghost use Rattle.std.specs.Prelude.{◌≡◌};
-ghost use Rattle.std.proofs.Common.{rules};
+ghost use Rattle.wire.proofs.Multiplexors.{connected as one_before_the_other};
 ghost use Rattle.dictionary.specs.Layouts.{vacant};
 
 use crate::access::Access;
@@ -9,7 +9,6 @@ use search::Keyed;
 use wire::Multiplexor;
 
 /// An entry's multiplexor and attributes, and where its value lies in the table's bytes.
-// A place and a length, and no slice or Vec: the values of all rows lie in the table's own bytes, without a heap.
 #[derive(Clone, Copy)]
 pub struct Row {
     pub multiplexor: Multiplexor,
@@ -46,5 +45,5 @@ impl Keyed for Row {
         self.multiplexor
     }
 
-    ghost connected = { Prim.search rules };
+    ghost connected = { one_before_the_other };
 }

@@ -12,7 +12,6 @@ use wire::Multiplexor;
 pub fn sample() -> Table
     ensures { table_entries result ≡ sample_entries }
 {
-    // Four calls and no loop over a list: the list would say the same lines, and an invariant would have to say them again.
     let mut table = Table::new();
     let device_type = [0x92, 0x01, 0x02, 0x00];
     let _ = table.add(at(0x1000, 0), within(Access::ReadOnly, 4, 4), &device_type);

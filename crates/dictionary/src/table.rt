@@ -18,7 +18,6 @@ const MOST_ENTRIES: usize = 64;
 const MOST_BYTES: usize = 4096;
 
 /// A dictionary of at most 64 entries, whose longest lengths add up to at most 4,096 bytes.
-// No model: an entry says by a function which values it admits, and a model's value may hold none.
 #[derive(Drop)]
 pub struct Table {
     rows: ArrayVec<Row, MOST_ENTRIES>,

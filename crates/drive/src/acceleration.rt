@@ -6,7 +6,6 @@ ghost use Rattle.drive.specs.Numbers.{admits_acceleration, Made, OfBytes};
 use wire::AbortCode;
 
 /// A profile acceleration, 1 to 1,000,000.
-// No type of ranges for this and a node's number: a const parameter has one type, and the numbers have four bytes and one.
 #[derive(Clone, Copy, PartialEq, Eq, Debug)]
 pub struct ProfileAcceleration {
     number: u32,

@@ -36,7 +36,6 @@ impl<'a> TryFrom<&'a [u8]> for ModeOfOperation {
     ghost try_from_gives = { λ value. OfBytes mode_number admits_mode signed_in signed_bytes 1 value.now };
 
     fn try_from(value: &'a [u8]) -> Result<ModeOfOperation, AbortCode> {
-        // As for the acceleration: one function for both would take the integer's type and reading, and be no plainer.
         let bytes = <[u8; 1]>::try_from(value).map_err(|_| AbortCode::InvalidValue)?;
         ModeOfOperation::try_from(i8::from_le_bytes(bytes))
     }

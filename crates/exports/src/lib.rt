@@ -5,6 +5,8 @@ ghost use Rattle.std.specs.Prelude.{◌≡◌};
 ghost use Rattle.crc.specs.Registers.{crc};
 ghost use Rattle.exports.specs.Again.{request_again, answer_again, each};
 
+mod transfers;
+
 use crc::checksum;
 use sdo::{Answer, Request};
 
@@ -41,7 +43,6 @@ pub extern "C" fn wontazhil_requests(frames: &mut Frames)
         |bytes|
             ensures { result ≡ request_again bytes }
         {
-            // By arms: map_or was tried, and a goal of the closure stayed open.
             match Request::from_bytes(bytes) {
                 Some(request) => request.to_bytes(),
                 None => NO_FRAME,
@@ -60,7 +61,6 @@ pub extern "C" fn wontazhil_answers(frames: &mut Frames)
         |bytes|
             ensures { result ≡ answer_again bytes }
         {
-            // By arms, as above.
             match Answer::from_bytes(bytes) {
                 Some(answer) => answer.to_bytes(),
                 None => NO_FRAME,

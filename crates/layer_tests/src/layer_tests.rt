@@ -12,7 +12,6 @@ fn at(index: u16, subindex: u8) -> Multiplexor {
 }
 
 /// A frame that is told from others by a number.
-// As in the lines' tests in `tests`, and to the other end: no crate lies below both that tests could share.
 fn numbered(number: u8) -> Frame {
     Frame {
         identifier: Identifier::of_answers(NodeNumber::nearest(5)),

@@ -8,7 +8,7 @@ ghost use Rattle.dictionary.specs.Questions.{value_at};
 ghost use Rattle.dictionary.specs.Verdicts.{read_verdict, write_verdict};
 ghost use Rattle.layer_tests.specs.Stations.{length_or};
 
-use dictionary::{CopyRefusal, Readable, Writable};
+use dictionary::{Readable, Writable};
 use line::{End, Line};
 use wire::{AbortCode, Frame, LONGEST, Multiplexor};
 
@@ -58,11 +58,6 @@ impl<L: Line, D: Writable> Station<L, D> {
         ensures { result ≡ length_or (read_verdict (D.Readable.meaning self.now.dictionary) multiplexor) (length (value_at (D.Readable.meaning self.now.dictionary) multiplexor)) }
     {
         let mut buffer = [0; LONGEST];
-        // By arms: the proof rules the last one out by its name, and a closure in `map_err` is no shorter.
-        match self.dictionary.copy_value(multiplexor, &mut buffer) {
-            Ok(length) => Ok(length),
-            Err(CopyRefusal::Verdict(code)) => Err(code),
-            Err(CopyRefusal::ShortBuffer) => Err(AbortCode::OutOfMemory),
-        }
+        Ok(self.dictionary.copy_value(multiplexor, &mut buffer)?)
     }
 }

@@ -1,9 +1,7 @@
 -- A ring read from its first place on: an item stored behind the others comes last, the first taken leaves the others.
-use Rattle.std.proofs.Common.{◌≡◌, ℕ, zero, suc, ◌+◌, ◌-◌, ◌%◌, ◌<◌, ◌≤◌, List, [], ◌∷◌, ◌++◌, length, get_or, take, drop, set, ap, ◌∙◌, ⊎_elim, mod-eq_of_lt, arith, length-append, length-drop, length-take}
+use Rattle.std.proofs.Common.{◌≡◌, ℕ, zero, suc, ◌+◌, ◌-◌, ◌<◌, ◌≤◌, List, [], ◌∷◌, ◌++◌, length, get_or, take, drop, set, ap, ◌∙◌, arith, length-append, length-drop, length-take}
 use Rattle.std.proofs.Math.Seq.{take-set-lt}
-use Rattle.std.proofs.Math.Nat.{mod_self}
 use Rattle.std.proofs.lemmas.List.{append_assoc, append-nil, drop_all, drop_more, drop-set-add, drop-set-lt, set-append_left, set-append_right, take_all, take-append-le, take_more, take_more_set, take-set-le}
-use Rattle.std.proofs.lemmas.Bool.{cases_lt}
 use Rattle.line.specs.Queues.{read_from, held}
 
 module _ {A : Type 0} (room first : ℕ) (xs : List A) (size : length xs ≡ room) (within : first ≤ room - 1) where
@@ -32,25 +30,18 @@ module _ {A : Type 0} (room first : ℕ) (xs : List A) (size : length xs ≡ roo
       let s = set-append_right (drop first xs) (take first xs) (room - first) count x (simp length-drop (omega arith)) past in
       stored count place x some cc
 
-  -- the next place is behind the first, or the start of the ring
-  read_round : 0 < room → read_from ((first + 1) % room) xs ≡ read_from (first + 1) xs
-  read_round some =
-      ⊎_elim
-      (λ (h : first + 1 < room).
-      let place : (first + 1) % room ≡ first + 1 = mod-eq_of_lt h in
-      cc)
-      (λ (h : room ≤ first + 1).
-      let end : first + 1 ≡ room = omega arith in
-      let place : (first + 1) % room ≡ 0 = ap (λ (n : ℕ). n % room) end ∙ mod_self room in
+  -- past the end the ring goes on from its start
+  pub read_round : first + 1 ≡ room → read_from 0 xs ≡ read_from (first + 1) xs
+  read_round end =
       let a = drop_all (first + 1) xs (omega arith) in
       let b = take_all (first + 1) xs (omega arith) in
       let n = append-nil xs in
-      cc)
-      (cases_lt (first + 1) room)
+      cc
 
-  pub first_taken : (count : ℕ) (d : A) → 0 < count → count ≤ room → held first count xs ≡ get_or xs first d ∷ held ((first + 1) % room) (count - 1) xs
-  first_taken zero d some few = absurd (omega arith)
-  first_taken (suc n) d some few =
+  -- the first is taken, and the others begin at the place behind it
+  pub first_taken : (next count : ℕ) (d : A) → read_from next xs ≡ read_from (first + 1) xs → 0 < count → count ≤ room → held first count xs ≡ get_or xs first d ∷ held next (count - 1) xs
+  first_taken next zero d behind some few = absurd (omega arith)
+  first_taken next (suc n) d behind some few =
       let x = get_or xs first d in
       let others = drop (first + 1) xs ++ take first xs in
       let less : suc n - 1 ≡ n = omega arith in
@@ -59,4 +50,4 @@ module _ {A : Type 0} (room first : ℕ) (xs : List A) (size : length xs ≡ roo
       let s = append_assoc (drop (first + 1) xs) (take first xs) (x ∷ []) in
       let t = take-append-le n others (x ∷ []) (simp (length-append, length-drop, length-take) (omega arith)) in
       let begin : held first (suc n) xs ≡ x ∷ take n others = ap (λ (front : List A). take (suc n) (front ++ take first xs)) a in
-      cc (read_round (omega arith))
+      cc behind

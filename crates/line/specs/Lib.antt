@@ -3,4 +3,5 @@ pub mod Queues
 pub mod Patterns
 pub mod Drops
 pub mod Lends
+pub mod Named
 pub mod Records

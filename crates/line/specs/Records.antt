@@ -1,6 +1,6 @@
 -- What a recorder keeps of the frames that were sent.
 use Rattle.std.specs.Prelude.{◌≡◌, ℕ, ◌+◌, ◌-◌, ◌^◌, min, List, [], ◌∷◌, ◌++◌, length, drop}
-use Rattle.std.proofs.Common.{arith}
+use Rattle.std.proofs.Common.{lit≤}
 use Rattle.wire.specs.Frames.{request_identifier}
 use Rattle.line.specs.declared.end.End.TheVariants.{Node}
 use Rattle.line.specs.declared.sent.Sent.{Sent}
@@ -19,4 +19,4 @@ NewestOfAll = (room : ℕ) (all : List Sent) (next : Sent) → newest room (newe
 
 -- a place that holds no frame has a frame of zeros to node 1
 abbrev pub vacant : Sent
-vacant = record { to = Node; frame = record { identifier = request_identifier (record { number = 1; low = omega arith; high = omega arith }); bytes = 0 ∷ 0 ∷ 0 ∷ 0 ∷ 0 ∷ 0 ∷ 0 ∷ 0 ∷ [] } }
+vacant = record { to = Node; frame = record { identifier = request_identifier (record { number = 1; low = lit≤ tt; high = lit≤ tt }); bytes = 0 ∷ 0 ∷ 0 ∷ 0 ∷ 0 ∷ 0 ∷ 0 ∷ 0 ∷ [] } }

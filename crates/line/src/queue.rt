@@ -74,8 +74,11 @@ impl<T: Copy, const ROOM: usize> Queue<T, ROOM> {
             return None;
         }
         let item = self.items[self.first];
-        self.first = (self.first + 1) % ROOM;
         self.count -= 1;
+        self.first += 1;
+        if self.first == ROOM {
+            self.first = 0;
+        }
         Some(item)
     }
 

@@ -3,7 +3,6 @@ use line::{BoundedLine, DropLayer, End, Line, MailboxLine, MemoryLine, Recorder,
 use wire::{Frame, Identifier, NodeNumber};
 
 /// A frame that is told from others by a number.
-// As in `layer_tests`, and to the other end: no crate lies below both that tests could share.
 fn numbered(number: u8) -> Frame {
     Frame {
         identifier: Identifier::of_requests(NodeNumber::nearest(5)),

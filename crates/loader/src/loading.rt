@@ -1,43 +1,28 @@
 //! Orders carried out over a bench, one after the other.
 use crate::trace::Trace;
 use anyhow::{Context, anyhow};
-use dictionary::Writable;
+use bench::Steppable;
+use commands::{BenchOrder, BenchSession};
 use line::Recording;
-use master::{BeginRefusal, Heard, Method};
-use node::Served;
-use orders::{Order, Transfer};
-use report::{Report, SettleRefusal};
-use session::{LONGEST, Session};
+use master::{BeginRefusal, REST};
+use orders::Order;
+use report::{Outcome, Report, SettleRefusal};
+use rounds::{MOST_ROUNDS, hear_all, serve_all};
+use wire::LONGEST;
 
-/// The most frames that an end takes in a round.
-const MOST_FRAMES: usize = 300;
-
-/// The most rounds of a transfer: a write sends at most 1,300 frames, as `master::master_laws` states, and ends in the tenth tick without one.
-const MOST_ROUNDS: usize = 13_000;
-
-/// The ticks for which a master rests after a transfer that failed.
-const REST: usize = 30;
-
-/// A bench, whose frames are written down where a trace is asked for.
-// Without Drop, as its session.
-pub struct Loading<L: Recording, D: Writable> {
-    session: Session<L, D>,
+/// A bench, whose frames are written down where a trace is asked for. It has no `Drop`, as the session in it.
+pub struct Loading {
+    session: BenchSession,
     trace: Option<Trace>,
     /// How many of the frames that were sent are written down, or let go without a trace.
     traced: u64,
 }
 
-impl<L: Recording + Drop, D: Writable + Drop> Loading<L, D> {
-    /// A new bench over a line and a dictionary.
-    pub fn new(
-        node: u8,
-        block_size: u8,
-        line: L,
-        dictionary: D,
-        trace: Option<Trace>,
-    ) -> Loading<L, D> {
+impl Loading {
+    /// A new bench.
+    pub fn new(bench: BenchOrder, trace: Option<Trace>) -> Loading {
         Loading {
-            session: Session::new(node, block_size, line, dictionary),
+            session: bench.session(),
             trace,
             traced: 0,
         }
@@ -53,7 +38,7 @@ impl<L: Recording + Drop, D: Writable + Drop> Loading<L, D> {
         self.begin(order)?;
         self.pass_frames()?;
         let report = self.settle()?;
-        if !matches!(report, Report::Written) {
+        if !matches!(report.outcome, Outcome::Written) {
             self.rest()?;
         }
         Ok(report)
@@ -61,9 +46,8 @@ impl<L: Recording + Drop, D: Writable + Drop> Loading<L, D> {
 
     /// Begins the transfer of an order.
     fn begin(&mut self, order: &Order) -> anyhow::Result<()> {
-        let method = method_of(order.transfer);
         self.session
-            .begin_write(method, order.multiplexor, &order.value)
+            .begin_write(order.method, order.multiplexor, &order.value)
             .map_err(begin_error)?;
         self.trace_sent()
     }
@@ -80,47 +64,22 @@ impl<L: Recording + Drop, D: Writable + Drop> Loading<L, D> {
 
     /// Lets both ends take all that waits and a tick pass, and tells whether the transfer ended.
     fn round(&mut self) -> anyhow::Result<bool> {
-        self.serve_all()?;
-        let over = self.hear_all()?;
+        serve_all(&mut self.session);
+        self.trace_sent()?;
+        let over = hear_all(&mut self.session);
+        self.trace_sent()?;
         let ended = self.tick()?;
         Ok(over || ended)
     }
 
-    /// Lets the node take all frames that wait for it.
-    fn serve_all(&mut self) -> anyhow::Result<()> {
-        for _ in 0..MOST_FRAMES {
-            let served = self.session.serve();
-            self.trace_sent()?;
-            if let Served::NothingWaited = served {
-                break;
-            }
-        }
-        Ok(())
-    }
-
-    /// Lets the master take all frames that wait for it, and tells whether one of them ended the transfer.
-    fn hear_all(&mut self) -> anyhow::Result<bool> {
-        let mut over = false;
-        for _ in 0..MOST_FRAMES {
-            let heard = self.session.hear();
-            self.trace_sent()?;
-            match heard {
-                Heard::NothingWaited => break,
-                Heard::Over => over = true,
-                Heard::Dropped | Heard::Sent => {}
-            }
-        }
-        Ok(over)
-    }
-
     /// Lets a tick pass, and tells whether it ended the transfer.
     fn tick(&mut self) -> anyhow::Result<bool> {
-        let ended = self.session.tick();
+        let ticked = self.session.tick();
         if let Some(trace) = &mut self.trace {
             trace.tick();
         }
         self.trace_sent()?;
-        Ok(ended)
+        Ok(ticked.ended)
     }
 
     /// Settles the transfer.
@@ -162,15 +121,6 @@ impl<L: Recording + Drop, D: Writable + Drop> Loading<L, D> {
             Some(trace) => trace.end().context("the trace cannot be written"),
             None => Ok(()),
         }
-    }
-}
-
-/// The master's method for a transfer.
-fn method_of(transfer: Transfer) -> Method {
-    match transfer {
-        Transfer::Expedited => Method::Expedited,
-        Transfer::Segmented => Method::Segmented,
-        Transfer::Block => Method::Block,
     }
 }
 

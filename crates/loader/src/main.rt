@@ -1,20 +1,17 @@
 //! Loads orders into a node, and prints what became of each.
 #![tactic(auto)]
 
-mod device;
-mod line_kind;
-mod load;
 mod loading;
-mod numbers;
 mod options;
-mod recorded;
 mod sheet;
 mod trace;
+mod values;
 
 use anyhow::{Context, bail, ensure};
-use load::Load;
+use loading::Loading;
 use options::Options;
 use orders::{Order, read_orders};
+use sheet::print_sheet;
 use std::io::Read;
 use std::process::ExitCode;
 use std::{env, fs};
@@ -105,12 +102,11 @@ fn load_orders(rt: &HostRuntime, options: Options<'_>) -> anyhow::Result<()> {
         }
         None => None,
     };
-    let load = Load {
-        options,
-        orders: &orders,
-        trace,
-    };
-    load.run(rt)
+    let mut loading = Loading::new(options.bench, trace);
+    let printed = print_sheet(rt, options.bench, &mut loading, &orders);
+    let ended = loading.end();
+    printed?;
+    ended
 }
 
 /// The text of the orders: that of a file, or of standard input.
@@ -131,7 +127,6 @@ fn read_text(rt: &HostRuntime, path: Option<&str>) -> anyhow::Result<Vec<u8>> {
 
 /// The orders of a text; where some lines are none, each is named with its number and the reason.
 fn orders_of(rt: &HostRuntime, text: &[u8]) -> anyhow::Result<Vec<Order>> {
-    // By arms: a closure for or_else would hold the same loop over the lines, and say no more.
     match read_orders(rt.alloc(), without_mark(text))?.into_orders() {
         Ok(orders) => Ok(orders),
         Err(bad) => {

@@ -1,8 +1,7 @@
 //! What the command line asks for.
-use crate::device::Device;
-use crate::line_kind::LineKind;
-use crate::numbers::{read_number, read_pattern};
+use crate::values::{read_device, read_line, read_number, read_pattern};
 use anyhow::{bail, ensure};
+use commands::{BenchOrder, DeviceKind, LineKind, LineOrder};
 
 /// Where the orders are, and to what they are loaded and how.
 #[derive(Clone, Copy)]
@@ -11,14 +10,8 @@ pub struct Options<'a> {
     pub help: bool,
     /// The file of the orders, if one is named.
     pub orders: Option<&'a str>,
-    pub device: Device,
-    pub line: LineKind,
-    /// The pattern by which the line loses frames; 0 for none.
-    pub pattern: u64,
-    /// The node's number, 1 to 127.
-    pub node: u8,
-    /// How many segments the node takes in a sub-block, 1 to 127.
-    pub block_size: u8,
+    /// The bench to load on. Its node's number and block size are from 1 to 127.
+    pub bench: BenchOrder,
     /// The file for the frames that are sent, if one is named.
     pub trace: Option<&'a str>,
 }
@@ -29,11 +22,15 @@ impl<'a> Options<'a> {
         let usual = Options {
             help: false,
             orders: None,
-            device: Device::Sample,
-            line: LineKind::Memory,
-            pattern: 0,
-            node: 5,
-            block_size: 127,
+            bench: BenchOrder {
+                node: 5,
+                block_size: 127,
+                line: LineOrder {
+                    kind: LineKind::Memory,
+                    pattern: 0,
+                },
+                device: DeviceKind::Sample,
+            },
             trace: None,
         };
         usual.changed(words)
@@ -48,23 +45,42 @@ impl<'a> Options<'a> {
                 rest
             }
             ["--device", name, rest @ ..] => {
-                self.device = name.parse()?;
+                let device = read_device(name)?;
+                self.bench = BenchOrder {
+                    device,
+                    ..self.bench
+                };
                 rest
             }
             ["--line", name, rest @ ..] => {
-                self.line = name.parse()?;
+                let kind = read_line(name)?;
+                let line = LineOrder {
+                    kind,
+                    ..self.bench.line
+                };
+                self.bench = BenchOrder { line, ..self.bench };
                 rest
             }
             ["--drop", digits, rest @ ..] => {
-                self.pattern = read_pattern(digits)?;
+                let pattern = read_pattern(digits)?;
+                let line = LineOrder {
+                    pattern,
+                    ..self.bench.line
+                };
+                self.bench = BenchOrder { line, ..self.bench };
                 rest
             }
             ["--node", digits, rest @ ..] => {
-                self.node = read_number("--node", digits)?;
+                let node = read_number("--node", digits)?;
+                self.bench = BenchOrder { node, ..self.bench };
                 rest
             }
             ["--block", digits, rest @ ..] => {
-                self.block_size = read_number("--block", digits)?;
+                let block_size = read_number("--block", digits)?;
+                self.bench = BenchOrder {
+                    block_size,
+                    ..self.bench
+                };
                 rest
             }
             ["--trace", path, rest @ ..] => {

@@ -1,11 +1,9 @@
 //! The sheet of a load: a row for each order, and how many came out how.
 use crate::loading::Loading;
-use crate::options::Options;
-use dictionary::Writable;
-use line::Recording;
-use orders::{HexBytes, Order, Transfer};
+use commands::BenchOrder;
+use orders::{HexBytes, Order, method_word};
 use register::Layer;
-use report::{Failure, Report};
+use report::{Failure, Outcome};
 use std::alloc::{AllocError, Global};
 
 /// The most bytes of a value that stand in a row in full.
@@ -23,26 +21,26 @@ struct Counts {
 }
 
 /// Carries out all orders, and prints what became of them.
-pub fn print_sheet<L: Recording + Drop, D: Writable + Drop>(
+pub fn print_sheet(
     rt: &HostRuntime,
-    options: &Options<'_>,
-    loading: &mut Loading<L, D>,
+    bench: BenchOrder,
+    loading: &mut Loading,
     orders: &[Order],
 ) -> anyhow::Result<()> {
-    print_head(rt, options)?;
+    print_head(rt, bench)?;
     let counts = print_rows(rt, loading, orders)?;
     print_counts(rt, &counts, loading.commits())
 }
 
 /// Prints what the orders are loaded to, and the names of the columns.
-fn print_head(rt: &HostRuntime, options: &Options<'_>) -> anyhow::Result<()> {
-    let node = options.node;
-    let block_size = options.block_size;
-    let device = options.device;
-    let line = options.line;
+fn print_head(rt: &HostRuntime, bench: BenchOrder) -> anyhow::Result<()> {
+    let node = bench.node;
+    let block_size = bench.block_size;
+    let device = bench.device;
+    let line = bench.line.kind;
     print!(rt; "Node {node}, device {device}, block size {block_size}, line {line}")?;
-    if options.pattern != 0 {
-        let pattern = options.pattern;
+    if bench.line.pattern != 0 {
+        let pattern = bench.line.pattern;
         print!(rt; ", drop {pattern:016X}")?;
     }
     println!(rt; "\n")?;
@@ -63,21 +61,17 @@ fn print_head(rt: &HostRuntime, options: &Options<'_>) -> anyhow::Result<()> {
 }
 
 /// Carries out all orders, prints a row for each, and counts how they came out.
-fn print_rows<L: Recording + Drop, D: Writable + Drop>(
-    rt: &HostRuntime,
-    loading: &mut Loading<L, D>,
-    orders: &[Order],
-) -> anyhow::Result<Counts> {
+fn print_rows(rt: &HostRuntime, loading: &mut Loading, orders: &[Order]) -> anyhow::Result<Counts> {
     let mut counts = Counts {
         written: 0,
         unwritten: 0,
         undecided: 0,
     };
     for (number, order) in (1usize..).zip(orders) {
-        let report = loading.carry_out(order)?;
-        counts.add(report);
+        let outcome = loading.carry_out(order)?.outcome;
+        counts.add(outcome);
         print_order(rt, number, order)?;
-        print_report(rt, report)?;
+        print_outcome(rt, outcome)?;
     }
     Ok(counts)
 }
@@ -85,22 +79,22 @@ fn print_rows<L: Recording + Drop, D: Writable + Drop>(
 /// Prints the front of a row: what was ordered.
 fn print_order(rt: &HostRuntime, number: usize, order: &Order) -> anyhow::Result<()> {
     let multiplexor = order.multiplexor;
-    let transfer = transfer_words(order.transfer);
+    let method = method_word(order.method);
     let bytes = order.value.len();
     let value = value_words(rt.alloc(), &order.value)?;
-    print!(rt; "{number:>5}  {multiplexor}  {transfer:<9}  {bytes:>5}  {value:<23}  ")?;
+    print!(rt; "{number:>5}  {multiplexor}  {method:<9}  {bytes:>5}  {value:<23}  ")?;
     Ok(())
 }
 
 /// Prints the end of a row: what became of the order.
-fn print_report(rt: &HostRuntime, report: Report) -> anyhow::Result<()> {
-    match report {
-        Report::Written => println!(rt; "Written")?,
+fn print_outcome(rt: &HostRuntime, outcome: Outcome) -> anyhow::Result<()> {
+    match outcome {
+        Outcome::Written => println!(rt; "Written")?,
         // A write is never told of in the words of a read.
-        Report::Read { .. } => println!(rt; "Read")?,
-        Report::Unwritten(failure) => print_failure(rt, "Unwritten", failure)?,
-        Report::Undecided(failure) => print_failure(rt, "Undecided", failure)?,
-        Report::Unread(failure) => print_failure(rt, "Unread", failure)?,
+        Outcome::Read { .. } => println!(rt; "Read")?,
+        Outcome::Unwritten(failure) => print_failure(rt, "Unwritten", failure)?,
+        Outcome::Undecided(failure) => print_failure(rt, "Undecided", failure)?,
+        Outcome::Unread(failure) => print_failure(rt, "Unread", failure)?,
     }
     Ok(())
 }
@@ -127,11 +121,11 @@ fn print_counts(rt: &HostRuntime, counts: &Counts, commits: u16) -> anyhow::Resu
 
 impl Counts {
     /// Counts one more order.
-    fn add(&mut self, report: Report) {
-        let count = match report {
-            Report::Written | Report::Read { .. } => &mut self.written,
-            Report::Unwritten(_) | Report::Unread(_) => &mut self.unwritten,
-            Report::Undecided(_) => &mut self.undecided,
+    fn add(&mut self, outcome: Outcome) {
+        let count = match outcome {
+            Outcome::Written | Outcome::Read { .. } => &mut self.written,
+            Outcome::Unwritten(_) | Outcome::Unread(_) => &mut self.unwritten,
+            Outcome::Undecided(_) => &mut self.undecided,
         };
         *count = count.saturating_add(1);
     }
@@ -145,14 +139,6 @@ fn value_words(heap: Global, value: &[u8]) -> Result<String, AllocError> {
     } else {
         let front = HexBytes(&value[..FRONT]);
         format!(in heap; "{front} ..")
-    }
-}
-
-fn transfer_words(transfer: Transfer) -> &'static str {
-    match transfer {
-        Transfer::Expedited => "expedited",
-        Transfer::Segmented => "segmented",
-        Transfer::Block => "block",
     }
 }
 

@@ -10,13 +10,13 @@ use Rattle.master.specs.declared.heard.Heard.TheVariants as heard
 use Rattle.master.specs.declared.phase.Phase.TheVariants.{Open, Over}
 use Rattle.master.specs.declared.phase.Awaiting.{Awaiting}
 use Rattle.master.specs.States.{State}
-use Rattle.master.specs.Steps.{Step, found, told, hear_in, hear}
+use Rattle.master.specs.Steps.{Step, found, abort_heard, hear_in, hear}
 use Rattle.master.specs.Laws.{Finishes, Awaited, SuccessIsAnswered, AbortHeardEnds}
 use Rattle.master.proofs.Outcomes.{Outcome, goes_on, ended, was_told, succeeded, HeardAs, stays, answers, hear_outcome}
 use Rattle.master.proofs.Addressing.{addressed}
 
 finished_by : {s : State} {w : Awaiting} {o : Option Answer} {p : Step} → Outcome s w o p → p.next.phase ≡ Over (Ok tt) → (a : Answer) × ((o ≡ Some a) × Finishes s w a p.next.value)
-unfolding found told
+unfolding found abort_heard
 finished_by (goes_on u h v fs some paid) e = cc
 finished_by (ended c) e = cc
 finished_by (was_told c) e = cc
@@ -31,12 +31,12 @@ answered_by (answers w g own is from out) over e =
 pub success_is_answered : SuccessIsAnswered
 success_is_answered s f over e = answered_by (hear_outcome s f) over e
 
-abort_is_told : (s : State) (w : Awaiting) (g : Frame) (m : Multiplexor) (c : AbortCode) → s.phase ≡ Open w → g.identifier.number ≡ (answer_identifier s.node).number → answer_in g.bytes ≡ Some (answer.Abort m c) → hear s (Some g) ≡ told s c
+abort_is_told : (s : State) (w : Awaiting) (g : Frame) (m : Multiplexor) (c : AbortCode) → s.phase ≡ Open w → g.identifier.number ≡ (answer_identifier s.node).number → answer_in g.bytes ≡ Some (answer.Abort m c) → hear s (Some g) ≡ abort_heard s c
 unfolding hear
 abort_is_told s w g m c own from said = ap (λ p. hear_in s p g) own ∙ addressed s w g (Some (answer.Abort m c)) from (sym said)
 
 pub abort_heard_ends : AbortHeardEnds
-unfolding told
+unfolding abort_heard
 abort_heard_ends s w g m c own from said =
-    let e : hear s (Some g) ≡ told s c = abort_is_told s w g m c own from said in
-    record { told = ap (λ p. p.heard) e; failure = ap (λ p. p.next.phase) e; sending = ap (λ p. p.sending) e }
+    let e : hear s (Some g) ≡ abort_heard s c = abort_is_told s w g m c own from said in
+    record { over = ap (λ p. p.heard) e; failure = ap (λ p. p.next.phase) e; sending = ap (λ p. p.sending) e }

@@ -14,9 +14,10 @@ use Rattle.master.specs.declared.method.Method.TheVariants as method
 use Rattle.master.specs.declared.refusal.BeginRefusal.TheVariants.{ValueLength, NotExpedited}
 use Rattle.master.specs.Values.{is_length}
 use Rattle.master.specs.States.{State, in_phase, clear}
-use Rattle.master.specs.Steps.{Step, found, told, parting}
-use Rattle.master.specs.Calls.{Order, Write, free, start, fits_start, write_start, write_awaited, opened, begin_if, begin, tick, give_up}
-use Rattle.master.specs.Runs.{Call, Begin, Hear, Tick, GiveUp, Clear, after, sent_in, started_frames, accepted, begins, Run, none, more}
+use Rattle.master.specs.Steps.{Step, found, abort_heard, parting}
+use Rattle.master.specs.Methods.{takes}
+use Rattle.master.specs.Calls.{Order, Write, free, start, write_start, write_awaited, opened, begin_if, begin, tick, give_up}
+use Rattle.master.specs.Runs.{Move, Begin, Hear, Tick, GiveUp, Clear, after, sent_in, started_frames, accepted, begins, Run, none, more}
 use Rattle.master.specs.Laws.{RepeatsAreBounded}
 use Rattle.master.proofs.Outcomes.{by_phase, Writes, room, Outcome, goes_on, ended, was_told, succeeded, HeardAs, stays, answers, hear_outcome, accepted_as, refused_as, waits_on, waits_out}
 
@@ -45,7 +46,7 @@ pays_nothing : (s : State) → WritesIn s.phase → Pays s s []
 pays_nothing s h = record { writes = h; pays = omega arith }
 
 pays_answer : {s : State} {w : Awaiting} {o : Option Answer} {p : Step} → Outcome s w o p → s.phase ≡ Open w → Writes w → Pays s p.next p.sending.frames
-unfolding found told parting
+unfolding found abort_heard parting
 pays_answer {s} {w} (goes_on u h v fs some paid) own wr =
     let bill = paid wr in
     let full : left s ≡ room s.value w = ap (room_in s.value) own in
@@ -96,7 +97,7 @@ pays_clear s =
     (λ e u wr. record { writes = tt; pays = omega arith })
     s
 
-pays_call : (s : State) (c : Call) → begins s c ≡ false → WritesIn s.phase → Pays s (after s c) (sent_in s c)
+pays_call : (s : State) (c : Move) → begins s c ≡ false → WritesIn s.phase → Pays s (after s c) (sent_in s c)
 pays_call s (Begin m o) no_start wr = pays_begin s m o no_start wr
 pays_call s (Hear f) no_start wr = pays_heard (hear_outcome s f) wr
 pays_call s Tick no_start wr = pays_tick s wr
@@ -117,11 +118,11 @@ write_room how v h = (omega arith, tt)
 
 fitting-length : (m : Multiplexor) (how : Method) (v : List ℕ) (y : Request) → start m (Write how v) ≡ Ok y → length v ≤ 1024
 fitting-length m how v y =
-    cond_both (is_length (length v)) (cond (fits_start how v) (Ok (write_start m how v)) (Err NotExpedited)) (Err ValueLength) (λ q. q ≡ Ok y → length v ≤ 1024)
+    cond_both (is_length (length v)) (cond (takes how (length v)) (Ok (write_start m how v)) (Err NotExpedited)) (Err ValueLength) (λ q. q ≡ Ok y → length v ≤ 1024)
     (λ e _. leb-true (length v) 1024 (and_parts (leb 1 (length v)) (leb (length v) 1024) e).1)
     (λ _ e. cc)
 
-run_from : (s t u : State) (m : Multiplexor) (how : Method) (v : List ℕ) (fs : List Frame) (n : ℕ) → u ≡ opened s m (write_awaited how) v → length v ≤ 1024 → Run u fs n t → length fs ≤ 1292
+run_from : (s t u : State) (m : Multiplexor) (how : Method) (v : List ℕ) (fs : List Frame) (n : ℕ) → u ≡ opened s m (Write how v) → length v ≤ 1024 → Run u fs n t → length fs ≤ 1292
 run_from s t u m how v fs n is h run =
     let fit = write_room how v h in
     let all : Pays u t fs = pays_run run (subst (λ k. WritesIn k.phase) (sym is) fit.1) in

@@ -1,14 +1,14 @@
 -- In every open transfer the notes of one who listens stand beside the master, whatever answer it hears.
-use Rattle.std.proofs.Common.{◌≡◌, ℕ, ◌+◌, ◌-◌, ◌*◌, ◌<◌, ◌≤◌, min, max, Bool, true, false, cond, ◌&&◌, ◌||◌, eqb, ltb, leb, List, [], ◌++◌, length, map, Some, None, Ok, Err, Option, sym, refl, ap, ◌∙◌, subst, inl, inr, arith}
+use Rattle.std.proofs.Common.{◌≡◌, ℕ, ◌+◌, ◌-◌, ◌*◌, ◌<◌, ◌≤◌, min, max, Bool, true, false, cond, ◌&&◌, ◌||◌, eqb, ltb, leb, List, [], ◌++◌, length, map, Some, None, Ok, Err, Option, sym, refl, ap, ◌∙◌, subst, inl, inr, arith, lit<}
 use Rattle.std.specs.Option.{option_or, option_map}
 use Rattle.std.proofs.lemmas.Bool.{cond_both, cases_Bool, eqb-true, eq-eqb, ltb-false, leb-true, leb-false, le-leb, lt-leb, and_parts, and_left, and_right}
 use Rattle.wire.specs.declared.multiplexor.Multiplexor.{Multiplexor}
 use Rattle.wire.specs.declared.node_number.NodeNumber.{NodeNumber}
 use Rattle.wire.specs.declared.abort_code.AbortCode.{AbortCode}
 use Rattle.wire.specs.declared.abort_code.AbortCode.TheVariants.{UnknownCommand, ToggleNotAlternated, LengthMismatch, OutOfMemory, InvalidBlockSize, InvalidSequenceNumber}
-use Rattle.wire.specs.Fields.{abort_bytes, abort_code_in}
+use Rattle.sdo.specs.Fits.{Proper}
 use Rattle.wire.specs.Multiplexors.{same}
-use Rattle.wire.specs.Transfers.{Transfer, Expedited, Segmented}
+use Rattle.sdo.specs.Transfers.{Transfer, Expedited, Segmented}
 use Rattle.sdo.specs.declared.crc_offer.CrcOffer.{CrcOffer}
 use Rattle.sdo.specs.declared.toggle.Toggle.{Toggle}
 use Rattle.sdo.specs.declared.toggle.Toggle.TheVariants.{Zero}
@@ -25,9 +25,10 @@ use Rattle.master.specs.declared.phase.SubBlock.{SubBlock}
 use Rattle.master.specs.declared.phase.Finder.TheVariants.{Master, Node}
 use Rattle.master.specs.Values.{segments, unused, is_last, may_come, is_block_size, closing_crc}
 use Rattle.master.specs.States.{State}
-use Rattle.master.specs.Sendings.{sub_block_of}
-use Rattle.master.specs.Steps.{Step, may_have_set, found, unexpected, told, done, send_segment, ask_segment, send_sub_block, send_end, go_on, block_started, kept, segment_taken, upload_started, read_whole, read_on, started, toggled, hear_initiate_download, hear_download_segment, hear_initiate_upload, hear_upload_segment, hear_initiate_block, hear_acknowledgement, hear_end, answered, read, parting}
+use Rattle.master.specs.SubBlocks.{sub_block_of}
+use Rattle.master.specs.Steps.{Step, may_have_set, found, unexpected, abort_heard, done, send_segment, ask_segment, send_sub_block, send_end, go_on, block_started, kept, segment_taken, upload_started, read_whole, read_on, started, toggled, hear_initiate_download, hear_download_segment, hear_initiate_upload, hear_upload_segment, hear_initiate_block, hear_acknowledgement, hear_end, answered, read, parting}
 use Rattle.master.specs.Listening.{Requests, Segments, Notes, coming_behind, abort_taken, after_answer, Sent, noted, notes_on, failure_by, failure_in}
+use Rattle.sdo.proofs.FieldsBack.{code_back}
 use Rattle.master.proofs.Noting.{request_read, segment_back, asked_back, end_back, abort_read, Filled, filled}
 
 -- segments go one by one: the last one had number k
@@ -80,22 +81,19 @@ module _ (s : State) where
   abbrev pub Keeps : Notes → Step → Type 0
   Keeps u p = Stands s.node p.next (notes_on s.node u (map Sent p.sending.frames)) p.next.phase
 
-  -- What the master ends: its code is one that stands in the bytes of its abort.
+  -- What the master ends: its code can go into a frame.
 
-  abbrev pub Spoken : AbortCode → Type 0
-  Spoken c = abort_code_in (abort_bytes s.multiplexor c) ≡ c
-
-  pub ends : (w : Awaiting) (u : Notes) (c : AbortCode) → Spoken c → Fair s w u → failure_in (noted s.node u (Sent (request_frame s.node (request.Abort s.multiplexor c)))) ≡ Some (record { code = c; finder = Master; may_be_set = may_have_set w s.value; segment = s.highest })
-  ends w u c back fair =
+  pub ends : (w : Awaiting) (u : Notes) (c : AbortCode) → Proper c → Fair s w u → failure_in (noted s.node u (Sent (request_frame s.node (request.Abort s.multiplexor c)))) ≡ Some (record { code = c; finder = Master; may_be_set = may_have_set w s.value; segment = s.highest })
+  ends w u c proper fair =
       let x = noted s.node u (Sent (request_frame s.node (request.Abort s.multiplexor c))) in
-      let read = abort_read s.multiplexor c back u fair.abort s.node in
+      let read = abort_read s.multiplexor c (code_back s.multiplexor c proper) u fair.abort s.node in
       ap (λ a. option_map (failure_by x) a) read.abort
       ∙ ap (λ b. Some (record { code = c; finder = Master; may_be_set = b; segment = min x.highest 65535 })) (read.complete ∙ fair.complete)
       ∙ ap (λ k. Some (record { code = c; finder = Master; may_be_set = may_have_set w s.value; segment = k })) (ap (λ k. min k 65535) read.highest ∙ sym fair.highest)
 
-  fails : (w : Awaiting) (u : Notes) (c : AbortCode) → Spoken c → Fair s w u → Keeps u (found s w c)
+  fails : (w : Awaiting) (u : Notes) (c : AbortCode) → Proper c → Fair s w u → Keeps u (found s w c)
   unfolding found parting
-  fails w u c back fair = ends w u c back fair
+  fails w u c proper fair = ends w u c proper fair
 
   -- What the master sends.
 
@@ -147,16 +145,16 @@ module _ (s : State) where
   -- What is asked of an answer before it is taken.
 
   started_keeps : (w : Awaiting) (u : Notes) (m : Multiplexor) (p : Step) → Fair s w u → Keeps u p → Keeps u (started s w m p)
-  started_keeps w u m p fair h = cond_both (same m s.multiplexor) p (unexpected s w) (λ q. Keeps u q) (λ _. h) (λ _. fails w u UnknownCommand refl fair)
+  started_keeps w u m p fair h = cond_both (same m s.multiplexor) p (unexpected s w) (λ q. Keeps u q) (λ _. h) (λ _. fails w u UnknownCommand (lit< tt) fair)
 
   toggled_keeps : (w : Awaiting) (u : Notes) (t r : Toggle) (p : Step) → Fair s w u → Keeps u p → Keeps u (toggled s w t r p)
-  toggled_keeps w u t r p fair h = cond_both (same_toggle t r) p (found s w ToggleNotAlternated) (λ q. Keeps u q) (λ _. h) (λ _. fails w u ToggleNotAlternated refl fair)
+  toggled_keeps w u t r p fair h = cond_both (same_toggle t r) p (found s w ToggleNotAlternated) (λ q. Keeps u q) (λ _. h) (λ _. fails w u ToggleNotAlternated (lit< tt) fair)
 
   sized : (w : Awaiting) (u : Notes) (n : ℕ) (p : Step) → Fair s w u → (1 ≤ n → n ≤ 127 → Keeps u p) → Keeps u (cond (is_block_size n) p (found s w InvalidBlockSize))
   sized w u n p fair h =
       cond_both (is_block_size n) p (found s w InvalidBlockSize) (λ q. Keeps u q)
       (λ e. h (leb-true 1 n (and_parts (leb 1 n) (leb n 127) e).0) (leb-true n 127 (and_parts (leb 1 n) (leb n 127) e).1))
-      (λ _. fails w u InvalidBlockSize refl fair)
+      (λ _. fails w u InvalidBlockSize (lit< tt) fair)
 
 -- Each answer, where the notes stood beside the master before it.
 
@@ -174,7 +172,7 @@ module _ (s : State) (u : Notes) where
   still_asking o e = ap (λ c. coming_behind c u.highest o) e
 
   refused : (w : Awaiting) (o : Option Answer) → abort_taken o ≡ None → Near w → KeepsAt o (unexpected s w)
-  refused w o no_abort k = fails s w (after_answer u o) UnknownCommand refl (fair_after w o no_abort k.fair)
+  refused w o no_abort k = fails s w (after_answer u o) UnknownCommand (lit< tt) (fair_after w o no_abort k.fair)
 
   initiate_download : (w : Awaiting) (m : Multiplexor) → Near w → KeepsAt (Some (answer.InitiateDownload m)) (hear_initiate_download s w m)
   initiate_download awaiting.ExpeditedDownload m k =
@@ -215,7 +213,7 @@ module _ (s : State) (u : Notes) where
       let fair = fair_after awaiting.InitiateUpload o refl k.fair in
       cond_both (may_come size) (ask_segment s Zero size []) (found s awaiting.InitiateUpload OutOfMemory) (λ p. Keeps s w p)
       (λ _. one_asked s Zero size [] w (still_asking o k.beside) fair.complete fair.abort fair.highest)
-      (λ _. fails s awaiting.InitiateUpload w OutOfMemory refl fair)
+      (λ _. fails s awaiting.InitiateUpload w OutOfMemory (lit< tt) fair)
 
   initiate_upload : (w : Awaiting) (m : Multiplexor) (how : Transfer) → Near w → KeepsAt (Some (answer.InitiateUpload m how)) (hear_initiate_upload s w m how)
   initiate_upload awaiting.InitiateUpload m how k =
@@ -230,18 +228,18 @@ module _ (s : State) (u : Notes) where
       let fair = fair_after w o no_abort k.fair in
       let P : Step → Type 0 = λ p. Keeps s x p in
       cond_both (ltb 1024 (length v)) (found s w OutOfMemory) (read_whole s w size v) P
-      (λ _. fails s w x OutOfMemory refl fair)
+      (λ _. fails s w x OutOfMemory (lit< tt) fair)
       (λ _. cond_both (ltb (length v) 1) (found s w OutOfMemory) (cond (differs size (length v)) (found s w LengthMismatch) (done s v)) P
-      (λ _. fails s w x OutOfMemory refl fair)
+      (λ _. fails s w x OutOfMemory (lit< tt) fair)
       (λ _. cond_both (differs size (length v)) (found s w LengthMismatch) (done s v) P
-      (λ _. fails s w x LengthMismatch refl fair)
+      (λ _. fails s w x LengthMismatch (lit< tt) fair)
       (λ _. tt)))
   reads_on t size o false v no_abort k =
       let w = awaiting.UploadSegment t size in
       let x = after_answer u o in
       let fair = fair_after w o no_abort k.fair in
       cond_both (ltb 1024 (length v)) (found s w OutOfMemory) (ask_segment s (other t) size v) (λ p. Keeps s x p)
-      (λ _. fails s w x OutOfMemory refl fair)
+      (λ _. fails s w x OutOfMemory (lit< tt) fair)
       (λ _. one_asked s (other t) size v x (still_asking o k.beside) fair.complete fair.abort fair.highest)
 
   upload_segment : (w : Awaiting) (r : Toggle) (x : List ℕ) (last : Bool) → Near w → KeepsAt (Some (answer.UploadSegment r x last)) (hear_upload_segment s w r x last)
@@ -300,7 +298,7 @@ module _ (s : State) (u : Notes) where
         let whole = go_on s x.crc n (x.acknowledged + a) x.short in
         let again = go_on s x.crc n (x.acknowledged + a) (x.short + 1) in
         let P : Step → Type 0 = λ p. KeepsAt o p in
-        let fail : P failing = fails s w (after_answer u o) InvalidSequenceNumber refl (fair_after w o refl k.fair) in
+        let fail : P failing = fails s w (after_answer u o) InvalidSequenceNumber (lit< tt) (fair_after w o refl k.fair) in
         cond_both (ltb x.count a) failing (cond (eqb a x.count) whole (cond (ltb x.short 8) again failing)) P
         (λ _. fail)
         (λ few. cond_both (eqb a x.count) whole (cond (ltb x.short 8) again failing) P
@@ -321,8 +319,8 @@ module _ (s : State) (u : Notes) where
   end_answer w k = refused w (Some answer.EndBlockDownload) refl k
 
   -- the node's abort: nothing was set
-  abort_told : (w : Awaiting) (m : Multiplexor) (c : AbortCode) → Near w → KeepsAt (Some (answer.Abort m c)) (told s c)
-  unfolding told
+  abort_told : (w : Awaiting) (m : Multiplexor) (c : AbortCode) → Near w → KeepsAt (Some (answer.Abort m c)) (abort_heard s c)
+  unfolding abort_heard
   abort_told w m c k =
       let o : Option Answer = Some (answer.Abort m c) in
       ap (λ a. option_map (failure_by (after_answer u o)) (option_or a (abort_taken o))) k.fair.abort

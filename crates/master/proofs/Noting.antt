@@ -5,10 +5,10 @@ use Rattle.std.proofs.lemmas.Bool.{cases_Bool, eq-eqb, leb-true, leb-false, le-l
 use Rattle.wire.specs.declared.multiplexor.Multiplexor.{Multiplexor}
 use Rattle.wire.specs.declared.node_number.NodeNumber.{NodeNumber}
 use Rattle.wire.specs.declared.abort_code.AbortCode.{AbortCode}
-use Rattle.wire.specs.Fields.{abort_bytes, abort_code_in}
-use Rattle.wire.specs.FrameData.{padded}
+use Rattle.sdo.specs.Fields.{abort_bytes, abort_code_in}
+use Rattle.sdo.specs.FrameData.{padded}
 use Rattle.wire.specs.Frames.{request_identifier}
-use Rattle.wire.specs.Transfers.{Expedited}
+use Rattle.sdo.specs.Transfers.{Expedited}
 use Rattle.sdo.specs.declared.toggle.Toggle.{Toggle}
 use Rattle.sdo.specs.declared.toggle.Toggle.TheVariants.{Zero, One}
 use Rattle.sdo.specs.Segments.{segment, segment_bytes}
@@ -22,7 +22,7 @@ use Rattle.sdo.proofs.FieldsBack.{segment_kind, last_back}
 use Rattle.sdo.proofs.RoundTrips.{block_requests_read_back}
 use Rattle.master.specs.declared.phase.Finder.TheVariants.{Master}
 use Rattle.master.specs.Values.{is_last}
-use Rattle.master.specs.Sendings.{block_segment, sub_block_from}
+use Rattle.master.specs.SubBlocks.{block_segment, sub_block_from}
 use Rattle.master.specs.Listening.{Coming, Requests, Segments, Notes, after_request, after_block, after_bytes, Sent, noted, notes_on}
 use Rattle.master.proofs.SubBlocks.{segment-few, segment-filled, numbered}
 

@@ -1,5 +1,5 @@
 -- What a frame can come to, told once for all laws.
-use Rattle.std.proofs.Common.{◌≡◌, ℕ, ◌+◌, ◌-◌, ◌*◌, ◌<◌, ◌≤◌, min, Bool, true, false, cond, not, eqb, ltb, leb, List, [], ◌++◌, length, Some, None, Ok, Err, Option, Result, refl, arith}
+use Rattle.std.proofs.Common.{◌≡◌, ℕ, ◌+◌, ◌-◌, ◌*◌, ◌<◌, ◌≤◌, min, Bool, true, false, cond, eqb, ltb, leb, List, [], ◌++◌, length, Some, None, Ok, Err, Option, Result, refl, arith}
 use native.Mathlib.Nat.{min-le_left, min-le_right, le-min}
 use Rattle.std.proofs.lemmas.Bool.{cond_both, eqb-true, eqb-false, ltb-true, ltb-false, leb-true, leb-false, and_parts}
 use Rattle.wire.specs.declared.frame.Frame.{Frame}
@@ -9,10 +9,11 @@ use Rattle.wire.specs.declared.abort_code.AbortCode.TheVariants.{UnknownCommand,
 use Rattle.wire.specs.Multiplexors.{same}
 use Rattle.wire.specs.Frames.{answer_identifier}
 use Rattle.sdo.specs.declared.crc_offer.CrcOffer.{CrcOffer}
+use Rattle.sdo.proofs.Comparing.{equal_toggles, as_announced}
 use Rattle.sdo.specs.declared.toggle.Toggle.{Toggle}
-use Rattle.sdo.specs.declared.toggle.Toggle.TheVariants.{Zero, One}
+use Rattle.sdo.specs.declared.toggle.Toggle.TheVariants.{Zero}
 use Rattle.sdo.specs.Segments.{differs, other, same_toggle}
-use Rattle.wire.specs.Transfers.{Transfer, Expedited, Segmented}
+use Rattle.sdo.specs.Transfers.{Transfer, Expedited, Segmented}
 use Rattle.sdo.specs.Requests.{Request}
 use Rattle.sdo.specs.Answers.{Answer, answer_in}
 use Rattle.sdo.specs.Answers as answer
@@ -22,19 +23,19 @@ use Rattle.master.specs.declared.phase.Phase.TheVariants.{Idle, Open, Over}
 use Rattle.master.specs.declared.phase.Awaiting.{Awaiting}
 use Rattle.master.specs.declared.phase.Awaiting.TheVariants as awaiting
 use Rattle.master.specs.declared.phase.SubBlock.{SubBlock}
-use Rattle.master.specs.declared.phase.Failure.{Failure}
+use Rattle.master.specs.declared.phase.Aborted.{Aborted}
 use Rattle.master.specs.declared.refusal.BeginRefusal.{BeginRefusal}
 use Rattle.master.specs.Values.{segments, is_last, may_come, is_block_size}
 use Rattle.master.specs.States.{State, in_phase}
-use Rattle.master.specs.Sendings.{sub_block_of}
-use Rattle.master.specs.Steps.{Step, found, unexpected, told, done, unmoved, send, send_segment, ask_segment, send_sub_block, send_end, go_on, block_started, kept, segment_taken, upload_started, read_whole, read_on, started, toggled, hear_initiate_download, hear_download_segment, hear_initiate_upload, hear_upload_segment, hear_initiate_block, hear_acknowledgement, hear_end, answered, read, hear_open, hear_in, parting, abandoned, hear}
-use Rattle.master.specs.Calls.{Order, Started, Ticking, first_awaited, ordered, opened, starting, begin_if, counted}
+use Rattle.master.specs.SubBlocks.{sub_block_of}
+use Rattle.master.specs.Steps.{Step, found, unexpected, abort_heard, done, unmoved, send, send_segment, ask_segment, send_sub_block, send_end, go_on, block_started, kept, segment_taken, upload_started, read_whole, read_on, started, toggled, hear_initiate_download, hear_download_segment, hear_initiate_upload, hear_upload_segment, hear_initiate_block, hear_acknowledgement, hear_end, answered, read, hear_open, hear_in, parting, abandoned, hear}
+use Rattle.master.specs.Calls.{Order, Started, Ticking, opened, starting, begin_if, counted}
 use Rattle.master.specs.Runs.{started_frames, accepted}
 use Rattle.master.specs.Laws.{ReadWhole, Finishes, written_at_once, last_taken, read_at_once, last_given, block_closed}
 use Rattle.master.proofs.SubBlocks.{sub_block-length}
 
 -- a state by its phase
-pub by_phase : (P : State → Type 0) → ((s : State) → P (in_phase Idle s)) → ((w : Awaiting) (s : State) → P (in_phase (Open w) s)) → ((e : Result (Unit {0}) Failure) (s : State) → P (in_phase (Over e) s)) → (s : State) → P s
+pub by_phase : (P : State → Type 0) → ((s : State) → P (in_phase Idle s)) → ((w : Awaiting) (s : State) → P (in_phase (Open w) s)) → ((e : Result (Unit {0}) Aborted) (s : State) → P (in_phase (Over e) s)) → (s : State) → P s
 by_phase P i o v s = elim s.phase as (λ p. P (in_phase p s)) [ Idle ↦ i s | Open w ↦ o w s | Over e ↦ v e s ]
 
 -- what a write awaits; a sub-block has at most 127 segments
@@ -61,23 +62,8 @@ pub record Paid (s : State) (w u : Awaiting) (v : List ℕ) (fs : List Frame) : 
 pub data Outcome (s : State) (w : Awaiting) (o : Option Answer) : Step → Type 0 where
   goes_on : (u : Awaiting) (h : ℕ) (v : List ℕ) (fs : List Frame) → 1 ≤ length fs → (Writes w → Paid s w u v fs) → Outcome s w o (send s u h v fs)
   ended : (c : AbortCode) → Outcome s w o (found s w c)
-  was_told : (c : AbortCode) → Outcome s w o (told s c)
+  was_told : (c : AbortCode) → Outcome s w o (abort_heard s c)
   succeeded : (a : Answer) (v : List ℕ) → o ≡ Some a → Finishes s w a v → Outcome s w o (done s v)
-
-equal_toggles : (t u : Toggle) → same_toggle t u ≡ true → t ≡ u
-equal_toggles Zero Zero e = refl
-equal_toggles Zero One e = cc
-equal_toggles One Zero e = cc
-equal_toggles One One e = refl
-
--- an announced size that does not differ is the number of bytes
-by_not : (x : Bool) → not x ≡ false → x ≡ true
-by_not true e = refl
-by_not false e = cc
-
-as_announced : (o : Option ℕ) (n : ℕ) → differs o n ≡ false → (k : ℕ) → o ≡ Some k → n ≡ k
-as_announced None n e k h = cc
-as_announced (Some size) n e k h = let equal : size ≡ n = eqb-true size n (by_not (eqb size n) e) in cc
 
 module _ (s : State) where
   started_outcome : (w : Awaiting) (m : Multiplexor) (o : Option Answer) (p : Step) → (same m s.multiplexor ≡ true → Outcome s w o p) → Outcome s w o (started s w m p)
@@ -228,7 +214,7 @@ hear_outcome s (Some g) =
     s
 
 -- a begin that was accepted, and one that was refused
-pub accepted_as : (r : Result (Unit {0}) BeginRefusal) (q : Result Request BeginRefusal) (s : State) (m : Multiplexor) (o : Order) (x : Started) → (begin_if r q s m o).answer ≡ Ok x → (y : Request) × (((begin_if r q s m o).next ≡ opened s m (first_awaited o) (ordered o)) × ((x ≡ starting s y) × (q ≡ Ok y)))
+pub accepted_as : (r : Result (Unit {0}) BeginRefusal) (q : Result Request BeginRefusal) (s : State) (m : Multiplexor) (o : Order) (x : Started) → (begin_if r q s m o).answer ≡ Ok x → (y : Request) × (((begin_if r q s m o).next ≡ opened s m o) × ((x ≡ starting s y) × (q ≡ Ok y)))
 accepted_as (Err e) q s m o x said = cc
 accepted_as (Ok u) (Err e) s m o x said = cc
 accepted_as (Ok u) (Ok y) s m o x said = (y, (refl, (cc, refl)))

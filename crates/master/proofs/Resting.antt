@@ -7,35 +7,36 @@ use Rattle.sdo.specs.Requests.{Request}
 use Rattle.sdo.specs.Answers.{Answer}
 use Rattle.master.specs.declared.phase.Phase.TheVariants.{Idle, Open, Over}
 use Rattle.master.specs.declared.phase.Awaiting.{Awaiting}
-use Rattle.master.specs.declared.phase.Failure.{Failure}
+use Rattle.master.specs.declared.phase.Aborted.{Aborted}
 use Rattle.master.specs.declared.refusal.BeginRefusal.{BeginRefusal}
 use Rattle.master.specs.declared.refusal.BeginRefusal.TheVariants.{NotCleared, Resting, AllBegun, ValueLength, NotExpedited}
 use Rattle.master.specs.Values.{is_length}
 use Rattle.master.specs.States.{State, in_phase, clear}
-use Rattle.master.specs.Steps.{Step, found, told}
-use Rattle.master.specs.Calls.{Order, Read, Write, not_cleared, free, start, fits_start, write_start, begin_if, begin, tick, give_up}
-use Rattle.master.specs.Runs.{Call, Begin, Hear, Tick, GiveUp, Clear, after, ticks_in, accepted, begins, Run, none, more}
+use Rattle.master.specs.Steps.{Step, found, abort_heard}
+use Rattle.master.specs.Methods.{takes}
+use Rattle.master.specs.Calls.{Order, Read, Write, not_cleared, free, start, write_start, begin_if, begin, tick, give_up}
+use Rattle.master.specs.Runs.{Move, Begin, Hear, Tick, GiveUp, Clear, after, ticks_in, accepted, begins, Run, none, more}
 use Rattle.master.specs.Laws.{is_open, JustFailed, by_call, Rests, RestsForThirtyTicks}
 use Rattle.master.proofs.Outcomes.{by_phase, Outcome, goes_on, ended, was_told, succeeded, HeardAs, stays, answers, hear_outcome, refused_as, waits_on, waits_out}
 
 -- where an open transfer fails, the rest begins
-rest-answered : {s : State} {w : Awaiting} {o : Option Answer} {p : Step} (f : Failure) → Outcome s w o p → p.next.phase ≡ Over (Err f) → p.next.rest ≡ 30
-unfolding found told
+rest-answered : {s : State} {w : Awaiting} {o : Option Answer} {p : Step} (f : Aborted) → Outcome s w o p → p.next.phase ≡ Over (Err f) → p.next.rest ≡ 30
+unfolding found abort_heard
 rest-answered f (goes_on u h v fs some paid) e = cc
 rest-answered f (ended c) e = refl
 rest-answered f (was_told c) e = refl
 rest-answered f (succeeded a v is fin) e = cc
 
-rest-heard : {s : State} {g : Option Frame} {p : Step} (w : Awaiting) (f : Failure) → HeardAs s g p → s.phase ≡ Open w → p.next.phase ≡ Over (Err f) → p.next.rest ≡ 30
+rest-heard : {s : State} {g : Option Frame} {p : Step} (w : Awaiting) (f : Aborted) → HeardAs s g p → s.phase ≡ Open w → p.next.phase ≡ Over (Err f) → p.next.rest ≡ 30
 rest-heard w f (stays h no-over no-sent) own e = cc
 rest-heard w f (answers u g op is from out) own e = rest-answered f out e
 
-rest-begun : (r : Result (Unit {0}) BeginRefusal) (q : Result Request BeginRefusal) (s : State) (m : Multiplexor) (o : Order) (w : Awaiting) (f : Failure) → s.phase ≡ Open w → (begin_if r q s m o).next.phase ≡ Over (Err f) → (begin_if r q s m o).next.rest ≡ 30
+rest-begun : (r : Result (Unit {0}) BeginRefusal) (q : Result Request BeginRefusal) (s : State) (m : Multiplexor) (o : Order) (w : Awaiting) (f : Aborted) → s.phase ≡ Open w → (begin_if r q s m o).next.phase ≡ Over (Err f) → (begin_if r q s m o).next.rest ≡ 30
 rest-begun (Err e) q s m o w f own is = cc
 rest-begun (Ok u) (Err e) s m o w f own is = cc
 rest-begun (Ok u) (Ok y) s m o w f own is = cc
 
-rest_ticked : (s : State) (w : Awaiting) (f : Failure) → s.phase ≡ Open w → (tick s).next.phase ≡ Over (Err f) → (tick s).next.rest ≡ 30
+rest_ticked : (s : State) (w : Awaiting) (f : Aborted) → s.phase ≡ Open w → (tick s).next.phase ≡ Over (Err f) → (tick s).next.rest ≡ 30
 unfolding tick
 rest_ticked s w f =
     by_phase (λ u. u.phase ≡ Open w → (tick u).next.phase ≡ Over (Err f) → (tick u).next.rest ≡ 30)
@@ -46,17 +47,17 @@ rest_ticked s w f =
     (λ e u own is. cc)
     s
 
-rest-given_up : (s : State) (w : Awaiting) (f : Failure) → s.phase ≡ Open w → (give_up s).next.phase ≡ Over (Err f) → (give_up s).next.rest ≡ 30
+rest-given_up : (s : State) (w : Awaiting) (f : Aborted) → s.phase ≡ Open w → (give_up s).next.phase ≡ Over (Err f) → (give_up s).next.rest ≡ 30
 rest-given_up s w f =
     by_phase (λ u. u.phase ≡ Open w → (give_up u).next.phase ≡ Over (Err f) → (give_up u).next.rest ≡ 30)
     (λ u own is. cc) (λ v u own is. refl) (λ e u own is. cc) s
 
-rest_cleared : (s : State) (w : Awaiting) (f : Failure) → s.phase ≡ Open w → (clear s).phase ≡ Over (Err f) → (clear s).rest ≡ 30
+rest_cleared : (s : State) (w : Awaiting) (f : Aborted) → s.phase ≡ Open w → (clear s).phase ≡ Over (Err f) → (clear s).rest ≡ 30
 rest_cleared s w f =
     by_phase (λ u. u.phase ≡ Open w → (clear u).phase ≡ Over (Err f) → (clear u).rest ≡ 30)
     (λ u own is. cc) (λ v u own is. cc) (λ e u own is. cc) s
 
-rest_from : (s : State) (w : Awaiting) (c : Call) (f : Failure) → s.phase ≡ Open w → (after s c).phase ≡ Over (Err f) → (after s c).rest ≡ 30
+rest_from : (s : State) (w : Awaiting) (c : Move) (f : Aborted) → s.phase ≡ Open w → (after s c).phase ≡ Over (Err f) → (after s c).rest ≡ 30
 unfolding begin
 rest_from s w (Begin m o) f own is = rest-begun (free s) (start m o) s m o w f own is
 rest_from s w (Hear g) f own is = rest-heard w f (hear_outcome s g) own is
@@ -95,7 +96,7 @@ calm_clear s =
     by_phase (λ u. is_open u.phase ≡ false → Calms (clear u) (u.rest - 0))
     (λ u e. record { not_open = refl; left = omega arith }) (λ w u e. cc) (λ k u e. record { not_open = refl; left = omega arith }) s
 
-calm : (s : State) (c : Call) → begins s c ≡ false → is_open s.phase ≡ false → Calms (after s c) (s.rest - ticks_in c)
+calm : (s : State) (c : Move) → begins s c ≡ false → is_open s.phase ≡ false → Calms (after s c) (s.rest - ticks_in c)
 calm s (Begin m o) no_start e = calm_begin s m o no_start e
 calm s (Hear f) no_start e = calm_heard (hear_outcome s f) e
 calm s Tick no_start e = calm_tick s e
@@ -134,8 +135,8 @@ no_rest_in (Ok y) h s m o is = cc
 started_not_resting : (m : Multiplexor) (o : Order) → start m o ≡ Err Resting → ⊥
 started_not_resting m Read e = cc
 started_not_resting m (Write how v) e =
-    cond_both (is_length (length v)) (cond (fits_start how v) (Ok (write_start m how v)) (Err NotExpedited)) (Err ValueLength) (λ q. q ≡ Err Resting → ⊥)
-    (λ _. cond_both (fits_start how v) (Ok (write_start m how v)) (Err NotExpedited) (λ q. q ≡ Err Resting → ⊥)
+    cond_both (is_length (length v)) (cond (takes how (length v)) (Ok (write_start m how v)) (Err NotExpedited)) (Err ValueLength) (λ q. q ≡ Err Resting → ⊥)
+    (λ _. cond_both (takes how (length v)) (Ok (write_start m how v)) (Err NotExpedited) (λ q. q ≡ Err Resting → ⊥)
     (λ _ k. cc)
     (λ _ k. cc))
     (λ _ k. cc)

@@ -1,5 +1,5 @@
 -- From the begin of a transfer on, the notes of one who listens stand beside the master after every call, so that a failure tells them.
-use Rattle.std.proofs.Common.{◌≡◌, ℕ, ◌≤◌, true, false, cond, eqb, ltb, leb, min, ◌&&◌, List, [], ◌∷◌, ◌++◌, length, map, Some, None, Ok, Err, Option, Result, sym, refl, ap, ◌∙◌, subst, arith}
+use Rattle.std.proofs.Common.{◌≡◌, ℕ, ◌≤◌, true, false, cond, eqb, ltb, leb, min, ◌&&◌, List, [], ◌∷◌, ◌++◌, length, map, Some, None, Ok, Err, Option, Result, sym, refl, ap, ◌∙◌, subst, arith, lit<}
 use Rattle.std.specs.Option.{option_or, option_map}
 use Rattle.std.proofs.lemmas.Bool.{cond_both, leb-true, lt-leb, and_parts}
 use Rattle.wire.specs.declared.frame.Frame.{Frame}
@@ -8,6 +8,7 @@ use Rattle.wire.specs.declared.node_number.NodeNumber.{NodeNumber}
 use Rattle.wire.specs.declared.abort_code.AbortCode.{AbortCode}
 use Rattle.wire.specs.declared.abort_code.AbortCode.TheVariants.{TimedOut, GeneralError}
 use Rattle.wire.specs.Frames.{answer_identifier}
+use Rattle.sdo.specs.Fits.{Proper}
 use Rattle.sdo.specs.Frames.{request_frame}
 use Rattle.sdo.specs.Requests.{Request, request_bytes, request_in}
 use Rattle.sdo.specs.Requests as request
@@ -17,17 +18,18 @@ use Rattle.master.specs.declared.method.Method.{Method}
 use Rattle.master.specs.declared.method.Method.TheVariants as method
 use Rattle.master.specs.declared.phase.Phase.TheVariants.{Open, Over}
 use Rattle.master.specs.declared.phase.Awaiting.{Awaiting}
-use Rattle.master.specs.declared.phase.Failure.{Failure}
+use Rattle.master.specs.declared.phase.Aborted.{Aborted}
 use Rattle.master.specs.declared.refusal.BeginRefusal.{BeginRefusal}
 use Rattle.master.specs.declared.refusal.BeginRefusal.TheVariants.{ValueLength, NotExpedited}
 use Rattle.master.specs.Values.{is_length}
 use Rattle.master.specs.States.{State, in_phase, clear}
 use Rattle.master.specs.Steps.{unmoved, read, hear_in, parting, abandoned, hear}
-use Rattle.master.specs.Calls.{Order, Read, Write, Started, free, start, fits_start, write_start, first_awaited, ordered, opened, begin_if, begin, tick, give_up}
-use Rattle.master.specs.Runs.{Call, Begin, Hear, Tick, GiveUp, Clear, after, started_frames, accepted, begins}
+use Rattle.master.specs.Methods.{takes}
+use Rattle.master.specs.Calls.{Order, Read, Write, Started, free, start, write_start, first_awaited, opened, begin_if, begin, tick, give_up}
+use Rattle.master.specs.Runs.{Move, Begin, Hear, Tick, GiveUp, Clear, after, started_frames, accepted, begins}
 use Rattle.master.specs.Listening.{Segments, Abort, Notes, blank, after_request, abort_taken, after_answer, Passed, Sent, Taken, noted, notes_on, passed_in, Traffic, none, more, by_master, failure_by, failure_in, FailuresTold}
 use Rattle.master.proofs.Noting.{request_read, start_back}
-use Rattle.master.proofs.Listening.{Abreast, Stands, Spoken, ends, read_keeps}
+use Rattle.master.proofs.Listening.{Abreast, Stands, ends, read_keeps}
 use Rattle.master.proofs.Outcomes.{by_phase, accepted_as, refused_as, waits_on, waits_out}
 
 -- Each call leaves the notes beside the master.
@@ -45,14 +47,14 @@ heard_open w t g u k =
     ]
 
 -- of several aborts the first counts
-first_counts : (u w : Notes) (a b : Option Abort) (f : Failure) → w.highest ≡ u.highest → w.complete ≡ u.complete → option_map (failure_by u) a ≡ Some f → option_map (failure_by w) (option_or a b) ≡ Some f
+first_counts : (u w : Notes) (a b : Option Abort) (f : Aborted) → w.highest ≡ u.highest → w.complete ≡ u.complete → option_map (failure_by u) a ≡ Some f → option_map (failure_by w) (option_or a b) ≡ Some f
 first_counts u w None b f high whole told = cc
 first_counts u w (Some a) b f high whole told =
     ap (λ c. Some (record { code = a.code; finder = a.sender; may_be_set = by_master a.sender && c; segment = min w.highest 65535 })) whole
     ∙ ap (λ k. Some (record { code = a.code; finder = a.sender; may_be_set = by_master a.sender && u.complete; segment = min k 65535 })) high
     ∙ told
 
-let_go : (n : NodeNumber) (g : Frame) (u : Notes) (f : Failure) → failure_in u ≡ Some f → failure_in (noted n u (Taken g)) ≡ Some f
+let_go : (n : NodeNumber) (g : Frame) (u : Notes) (f : Aborted) → failure_in u ≡ Some f → failure_in (noted n u (Taken g)) ≡ Some f
 let_go n g u f told =
     let o = answer_in g.bytes in
     elim (eqb g.identifier.number (answer_identifier n).number) as (λ e. failure_in (cond e (after_answer u o) u) ≡ Some f) [
@@ -86,11 +88,11 @@ goes_begin n s u m o no_start k =
     (subst (λ fs. Stands n s (notes_on n u (map Sent fs)) s.phase) (sym same.1) k)
 
 -- an abort that no answer brought about
-goes_out : (n : NodeNumber) (w : Awaiting) (t : State) (u : Notes) (c : AbortCode) → let s = in_phase (Open w) t in Spoken s c → Abreast n s w u → Stands n (abandoned w c s) (notes_on n u (map Sent (parting c s).frames)) (abandoned w c s).phase
+goes_out : (n : NodeNumber) (w : Awaiting) (t : State) (u : Notes) (c : AbortCode) → let s = in_phase (Open w) t in Proper c → Abreast n s w u → Stands n (abandoned w c s) (notes_on n u (map Sent (parting c s).frames)) (abandoned w c s).phase
 unfolding parting
-goes_out n w t u c back k =
+goes_out n w t u c proper k =
     let s = in_phase (Open w) t in
-    subst (λ j. Stands j (abandoned w c s) (notes_on j u (map Sent (parting c s).frames)) (abandoned w c s).phase) (sym k.node) (ends s w u c back k.fair)
+    subst (λ j. Stands j (abandoned w c s) (notes_on j u (map Sent (parting c s).frames)) (abandoned w c s).phase) (sym k.node) (ends s w u c proper k.fair)
 
 goes_ticked : (n : NodeNumber) (s : State) (u : Notes) → Goes n s u (tick s).next (passed_in s Tick)
 unfolding tick
@@ -99,7 +101,7 @@ goes_ticked n s u =
     (λ t k. tt)
     (λ w t k. cond_both (ltb t.ticks 9) (waits_on w t) (waits_out w t) (λ p. Stands n p.next (notes_on n u (map Sent p.sending.frames)) p.next.phase)
     (λ _. record { node = k.node; fair = record { complete = k.fair.complete; highest = k.fair.highest; abort = k.fair.abort }; beside = k.beside })
-    (λ _. goes_out n w t u TimedOut refl k))
+    (λ _. goes_out n w t u TimedOut (lit< tt) k))
     (λ e t. elim e as (λ r. Goes n (in_phase (Over r) t) u (tick (in_phase (Over r) t)).next (passed_in (in_phase (Over r) t) Tick)) [ Ok x ↦ λ k. tt | Err f ↦ λ k. k ])
     s
 
@@ -107,7 +109,7 @@ goes_given_up : (n : NodeNumber) (s : State) (u : Notes) → Goes n s u (give_up
 goes_given_up n s u =
     by_phase (λ t. Goes n t u (give_up t).next (passed_in t GiveUp))
     (λ t k. tt)
-    (λ w t k. goes_out n w t u GeneralError refl k)
+    (λ w t k. goes_out n w t u GeneralError (lit< tt) k)
     (λ e t. elim e as (λ r. Goes n (in_phase (Over r) t) u (give_up (in_phase (Over r) t)).next (passed_in (in_phase (Over r) t) GiveUp)) [ Ok x ↦ λ k. tt | Err f ↦ λ k. k ])
     s
 
@@ -119,7 +121,7 @@ goes_cleared n s u =
     (λ e t k. tt)
     s
 
-goes : (n : NodeNumber) (s : State) (u : Notes) (c : Call) → begins s c ≡ false → Goes n s u (after s c) (passed_in s c)
+goes : (n : NodeNumber) (s : State) (u : Notes) (c : Move) → begins s c ≡ false → Goes n s u (after s c) (passed_in s c)
 goes n s u (Begin m o) no_start = goes_begin n s u m o no_start
 goes n s u (Hear o) no_start = goes_heard n s u o
 goes n s u Tick no_start = goes_ticked n s u
@@ -139,12 +141,12 @@ goes_all n u (more ps t c r no_start) k =
 -- The start stands beside the master that has just begun.
 
 abbrev StartsAs : State → Multiplexor → Order → Notes → Type 0
-StartsAs s m o u = Abreast s.node (opened s m (first_awaited o) (ordered o)) (first_awaited o) u
+StartsAs s m o u = Abreast s.node (opened s m o) (first_awaited o) u
 
 start_noted : (s : State) (m : Multiplexor) (o : Order) (q : Request) → after_request blank (request_in (request_bytes q)) ≡ after_request blank (Some q) → StartsAs s m o (after_request blank (Some q)) → StartsAs s m o (noted s.node blank (Sent (request_frame s.node q)))
 start_noted s m o q back k = subst (λ w. StartsAs s m o w) (sym (request_read s.node blank q refl back)) k
 
-write_starts : (s : State) (m : Multiplexor) (how : Method) (v : List ℕ) → 1 ≤ length v → length v ≤ 1024 → fits_start how v ≡ true → StartsAs s m (Write how v) (noted s.node blank (Sent (request_frame s.node (write_start m how v))))
+write_starts : (s : State) (m : Multiplexor) (how : Method) (v : List ℕ) → 1 ≤ length v → length v ≤ 1024 → takes how (length v) ≡ true → StartsAs s m (Write how v) (noted s.node blank (Sent (request_frame s.node (write_start m how v))))
 write_starts s m method.Expedited v some long fits =
     start_noted s m (Write method.Expedited v) (write_start m method.Expedited v) (start_back blank m v some (leb-true (length v) 4 fits))
     (record { node = refl; fair = record { complete = refl; highest = refl; abort = refl }; beside = tt })
@@ -161,10 +163,10 @@ starts s m Read y = λ said.
     subst (λ q. StartsAs s m Read (noted s.node blank (Sent (request_frame s.node q)))) same
     (start_noted s m Read (request.InitiateUpload m) refl (record { node = refl; fair = record { complete = refl; highest = refl; abort = refl }; beside = refl }))
 starts s m (Write how v) y =
-    let fitted : Result Request BeginRefusal = cond (fits_start how v) (Ok (write_start m how v)) (Err NotExpedited) in
+    let fitted : Result Request BeginRefusal = cond (takes how (length v)) (Ok (write_start m how v)) (Err NotExpedited) in
     let P : Result Request BeginRefusal → Type 0 = λ r. r ≡ Ok y → StartsAs s m (Write how v) (noted s.node blank (Sent (request_frame s.node y))) in
     cond_both (is_length (length v)) fitted (Err ValueLength) P
-    (λ e. cond_both (fits_start how v) (Ok (write_start m how v)) (Err NotExpedited) P
+    (λ e. cond_both (takes how (length v)) (Ok (write_start m how v)) (Err NotExpedited) P
     (λ fits said.
     let same : write_start m how v ≡ y = cc in
     let parts = and_parts (leb 1 (length v)) (leb (length v) 1024) e in

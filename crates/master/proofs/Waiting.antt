@@ -8,14 +8,14 @@ use Rattle.master.specs.declared.heard.Heard.TheVariants as heard
 use Rattle.master.specs.declared.phase.Phase.TheVariants.{Open}
 use Rattle.master.specs.declared.phase.Awaiting.{Awaiting}
 use Rattle.master.specs.States.{State, in_phase, clear}
-use Rattle.master.specs.Steps.{Step, found, told}
+use Rattle.master.specs.Steps.{Step, found, abort_heard}
 use Rattle.master.specs.Calls.{Order, Started, free, start, begin, tick, give_up}
-use Rattle.master.specs.Runs.{Call, Begin, Hear, Tick, GiveUp, Clear, after, sent_in, ticks_in, accepted, begins, Run, none, more}
+use Rattle.master.specs.Runs.{Move, Begin, Hear, Tick, GiveUp, Clear, after, sent_in, ticks_in, accepted, begins, Run, none, more}
 use Rattle.master.specs.Laws.{is_open, JustSent, by_begin, by_hear, TenthTickEnds, OnlyOpenTransfersEnd}
 use Rattle.master.proofs.Outcomes.{by_phase, Outcome, goes_on, ended, was_told, succeeded, HeardAs, stays, answers, hear_outcome, accepted_as, refused_as, waits_on, waits_out}
 
 fresh-after : {s : State} {w : Awaiting} {o : Option Answer} {p : Step} → Outcome s w o p → p.heard ≡ heard.Sent → p.next.ticks ≡ 0
-unfolding found told
+unfolding found abort_heard
 fresh-after (goes_on u h v fs some paid) e = refl
 fresh-after (ended c) e = cc
 fresh-after (was_told c) e = cc
@@ -44,7 +44,7 @@ counts_same : (t : State) → is_open t.phase ≡ true → Counts t t 0
 counts_same t e = record { was_open = e; counted = omega arith; few = λ h. h }
 
 counts_answer : {s : State} {w : Awaiting} {o : Option Answer} {p : Step} → Outcome s w o p → p.sending.frames ≡ [] → is_open p.next.phase ≡ true → ⊥
-unfolding found told
+unfolding found abort_heard
 counts_answer (goes_on u h v fs some paid) e op = omega (arith, ap length e)
 counts_answer (ended c) e op = cc
 counts_answer (was_told c) e op = cc
@@ -81,7 +81,7 @@ counts_clear t =
     by_phase (λ u. is_open (clear u).phase ≡ true → Counts u (clear u) 0)
     (λ u op. cc) (λ w u op. counts_same (in_phase (Open w) u) op) (λ e u op. cc) t
 
-counts : (t : State) (c : Call) → begins t c ≡ false → sent_in t c ≡ [] → is_open (after t c).phase ≡ true → Counts t (after t c) (ticks_in c)
+counts : (t : State) (c : Move) → begins t c ≡ false → sent_in t c ≡ [] → is_open (after t c).phase ≡ true → Counts t (after t c) (ticks_in c)
 counts t (Begin m o) no_start e op = counts_begin t m o no_start op
 counts t (Hear f) no_start e op = counts_heard (hear_outcome t f) e op
 counts t Tick no_start e op = counts_tick t op

@@ -3,10 +3,12 @@ use Rattle.std.specs.Prelude.{ℕ, ◌+◌, ◌-◌, Bool, true, false, cond, Li
 use Rattle.wire.specs.declared.multiplexor.Multiplexor.{Multiplexor}
 use Rattle.wire.specs.declared.abort_code.AbortCode.TheVariants.{TimedOut, GeneralError}
 use Rattle.sdo.specs.declared.crc_offer.CrcOffer.TheVariants.{Offered}
-use Rattle.wire.specs.Transfers.{Expedited, Segmented}
+use Rattle.sdo.specs.Transfers.{Expedited, Segmented}
 use Rattle.sdo.specs.Requests.{Request}
 use Rattle.sdo.specs.Requests as request
 use Rattle.sdo.specs.Frames.{request_frame}
+use Rattle.master.specs.declared.direction.Direction.{Direction}
+use Rattle.master.specs.declared.direction.Direction.TheVariants.{Upload, Download}
 use Rattle.master.specs.declared.method.Method.{Method}
 use Rattle.master.specs.declared.method.Method.TheVariants as method
 use Rattle.master.specs.declared.refusal.BeginRefusal.{BeginRefusal}
@@ -15,6 +17,8 @@ use Rattle.master.specs.declared.phase.Phase.{Phase}
 use Rattle.master.specs.declared.phase.Phase.TheVariants as phase
 use Rattle.master.specs.declared.phase.Awaiting.{Awaiting}
 use Rattle.master.specs.declared.phase.Awaiting.TheVariants as awaiting
+use Rattle.master.specs.Limits.{most_transfers}
+use Rattle.master.specs.Methods.{takes}
 use Rattle.master.specs.Values.{is_length}
 use Rattle.master.specs.States.{State}
 use Rattle.master.specs.Sendings.{Sending, silence}
@@ -28,6 +32,10 @@ pub data Order : Type 0 where
 abbrev pub ordered : Order → List ℕ
 ordered Read = []
 ordered (Write how v) = v
+
+abbrev pub direction_of : Order → Direction
+direction_of Read = Upload
+direction_of (Write how v) = Download
 
 -- the answer to the start of a transfer
 abbrev pub write_awaited : Method → Awaiting
@@ -48,16 +56,12 @@ abbrev pub free : State → Result (Unit {0}) BeginRefusal
 free s =
     cond (not_cleared s.phase) (Err NotCleared)
     (cond (nat_lt 0 s.rest) (Err Resting)
-    (cond (nat_le 65535 s.begun) (Err AllBegun)
+    (cond (nat_le most_transfers s.begun) (Err AllBegun)
     (Ok tt)))
 
--- what then speaks against a value: its length, and that it does not fit into its start
-abbrev pub fits_start : Method → List ℕ → Bool
-fits_start method.Expedited v = nat_le (length v) 4
-fits_start how v = true
-
-abbrev pub fitting : Method → List ℕ → Request → Result Request BeginRefusal
-fitting how v q = cond (is_length (length v)) (cond (fits_start how v) (Ok q) (Err NotExpedited)) (Err ValueLength)
+-- the start of a write, or what speaks against the value: first its length, then that its method has no room for it
+abbrev pub allowed_start : Method → List ℕ → Request → Result Request BeginRefusal
+allowed_start how v q = cond (is_length (length v)) (cond (takes how (length v)) (Ok q) (Err NotExpedited)) (Err ValueLength)
 
 -- the start of a transfer; a write announces its size, and one by block offers a CRC
 abbrev pub write_start : Multiplexor → Method → List ℕ → Request
@@ -67,7 +71,7 @@ write_start m method.Block v = request.InitiateBlockDownload m Offered (Some (le
 
 abbrev pub start : Multiplexor → Order → Result Request BeginRefusal
 start m Read = Ok (request.InitiateUpload m)
-start m (Write how v) = fitting how v (write_start m how v)
+start m (Write how v) = allowed_start how v (write_start m how v)
 
 -- a transfer that was begun: its number, and its start on a line that was quieted
 pub record Started : Type 0 where
@@ -79,8 +83,12 @@ pub record Beginning : Type 0 where
   pub next : State
   pub answer : Result Started BeginRefusal
 
-abbrev pub opened : State → Multiplexor → Awaiting → List ℕ → State
-opened s m w v = record { node = s.node; begun = s.begun + 1; phase = phase.Open w; multiplexor = m; value = v; highest = 0; ticks = 0; rest = s.rest }
+-- a transfer opens, by the answer to its start
+abbrev pub opening : State → Multiplexor → Awaiting → State
+opening s m w = record s { begun = s.begun + 1; phase = phase.Open w; multiplexor = m; highest = 0; ticks = 0 }
+
+abbrev pub opened : State → Multiplexor → Order → State
+opened s m o = opening (record s { direction = direction_of o; value = ordered o }) m (first_awaited o)
 
 abbrev pub starting : State → Request → Started
 starting s q = record { number = s.begun + 1; sending = record { quiet = true; frames = request_frame s.node q ∷ [] } }
@@ -88,7 +96,7 @@ starting s q = record { number = s.begun + 1; sending = record { quiet = true; f
 abbrev pub begin_if : Result (Unit {0}) BeginRefusal → Result Request BeginRefusal → State → Multiplexor → Order → Beginning
 begin_if (Err e) q s m o = record { next = s; answer = Err e }
 begin_if (Ok x) (Err e) s m o = record { next = s; answer = Err e }
-begin_if (Ok x) (Ok q) s m o = record { next = opened s m (first_awaited o) (ordered o); answer = Ok (starting s q) }
+begin_if (Ok x) (Ok q) s m o = record { next = opened s m o; answer = Ok (starting s q) }
 
 -- a refusal changes nothing
 unfoldable pub begin : State → Multiplexor → Order → Beginning
@@ -102,7 +110,7 @@ pub record Ticking : Type 0 where
 
 -- the master with other numbers of ticks and of ticks of rest
 abbrev pub counted : ℕ → ℕ → State → State
-counted n r s = record { node = s.node; begun = s.begun; phase = s.phase; multiplexor = s.multiplexor; value = s.value; highest = s.highest; ticks = n; rest = r }
+counted n r s = record s { ticks = n; rest = r }
 
 -- the tenth tick after the master last sent ends the transfer
 abbrev pub waited : State → Awaiting → Ticking

@@ -6,7 +6,7 @@ use Rattle.wire.specs.declared.abort_code.AbortCode.{AbortCode}
 use Rattle.wire.specs.Multiplexors.{same}
 use Rattle.wire.specs.Frames.{answer_identifier}
 use Rattle.sdo.specs.declared.toggle.Toggle.{Toggle}
-use Rattle.wire.specs.Transfers.{Expedited}
+use Rattle.sdo.specs.Transfers.{Expedited}
 use Rattle.sdo.specs.Answers.{Answer, answer_in}
 use Rattle.sdo.specs.Answers as answer
 use Rattle.master.specs.declared.heard.Heard.TheVariants as heard
@@ -15,14 +15,15 @@ use Rattle.master.specs.declared.phase.Phase.{Phase}
 use Rattle.master.specs.declared.phase.Phase.TheVariants.{Open, Over}
 use Rattle.master.specs.declared.phase.Awaiting.{Awaiting}
 use Rattle.master.specs.declared.phase.Awaiting.TheVariants as awaiting
-use Rattle.master.specs.declared.phase.Failure.{Failure}
+use Rattle.master.specs.declared.phase.Aborted.{Aborted}
 use Rattle.master.specs.declared.phase.Finder.TheVariants.{Node}
 use Rattle.master.specs.declared.refusal.BeginRefusal.TheVariants.{NotCleared, Resting}
+use Rattle.master.specs.Limits.{rest_ticks}
 use Rattle.master.specs.Values.{is_last}
 use Rattle.master.specs.States.{State}
 use Rattle.master.specs.Steps.{hear}
 use Rattle.master.specs.Calls.{Order, Write, Started, not_cleared, begin, tick}
-use Rattle.master.specs.Runs.{Call, after, Run}
+use Rattle.master.specs.Runs.{Move, after, Run}
 
 abbrev pub is_open : Phase → Bool
 is_open (Open w) = true
@@ -47,13 +48,13 @@ OnlyOpenTransfersEnd = (t : State) → is_open t.phase ≡ false → (tick t).en
 
 -- a master whose open transfer has just failed
 pub data JustFailed : State → Type 0 where
-  by_call : (s : State) (w : Awaiting) (c : Call) (f : Failure) → s.phase ≡ Open w → (after s c).phase ≡ Over (Err f) → JustFailed (after s c)
+  by_call : (s : State) (w : Awaiting) (c : Move) (f : Aborted) → s.phase ≡ Open w → (after s c).phase ≡ Over (Err f) → JustFailed (after s c)
 
--- for the next 30 ticks it begins nothing, and resting is the reason once the transfer is cleared; the 30th quiets the line
+-- for the next 30 ticks, which are rest_ticks, it begins nothing, and resting is the reason once the transfer is cleared; the 30th quiets the line
 pub record Rests (n : ℕ) (t : State) : Type 0 where
-  pub refuses : (m : Multiplexor) (o : Order) → n < 30 → (begin t m o).answer ≡ cond (not_cleared t.phase) (Err NotCleared) (Err Resting)
-  pub quiets : n < 30 → (tick t).sending ≡ record { quiet = (n + 1 == 30); frames = [] }
-  pub ends : (m : Multiplexor) (o : Order) → 30 ≤ n → (begin t m o).answer ≢ Err Resting
+  pub refuses : (m : Multiplexor) (o : Order) → n < rest_ticks → (begin t m o).answer ≡ cond (not_cleared t.phase) (Err NotCleared) (Err Resting)
+  pub quiets : n < rest_ticks → (tick t).sending ≡ record { quiet = (n + 1 == rest_ticks); frames = [] }
+  pub ends : (m : Multiplexor) (o : Order) → rest_ticks ≤ n → (begin t m o).answer ≢ Err Resting
 
 abbrev pub RestsForThirtyTicks : Type 0
 RestsForThirtyTicks = (s t : State) (fs : List Frame) (n : ℕ) → JustFailed s → Run s fs n t → Rests n t
@@ -87,7 +88,7 @@ SuccessIsAnswered = (s : State) (f : Option Frame) → (hear s f).heard ≡ hear
 
 -- what an abort that was heard comes to: the transfer fails by its code, and nothing is sent, but the line is quieted
 pub record EndedBy (s : State) (c : AbortCode) (f : Option Frame) : Type 0 where
-  pub told : (hear s f).heard ≡ heard.Over
+  pub over : (hear s f).heard ≡ heard.Over
   pub failure : (hear s f).next.phase ≡ Over (Err (record { code = c; finder = Node; may_be_set = false; segment = s.highest }))
   pub sending : (hear s f).sending ≡ record { quiet = true; frames = [] }
 

@@ -1,10 +1,14 @@
 pub mod Refusals
+pub mod Limits
+pub mod Methods
 pub mod Values
 pub mod States
+pub mod SubBlocks
 pub mod Sendings
 pub mod Steps
 pub mod Calls
 pub mod Shown
+pub mod Lending
 pub mod Runs
 pub mod Laws
 pub mod Listening

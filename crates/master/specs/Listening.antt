@@ -7,27 +7,20 @@ use Rattle.wire.specs.declared.frame.Frame.{Frame}
 use Rattle.wire.specs.declared.multiplexor.Multiplexor.{Multiplexor}
 use Rattle.wire.specs.declared.node_number.NodeNumber.{NodeNumber}
 use Rattle.wire.specs.Frames.{request_identifier, answer_identifier}
-use Rattle.wire.specs.Transfers.{Expedited}
-use Rattle.sdo.specs.Requests.{Request, request_in}
+use Rattle.sdo.specs.Requests.{Request, request_in, completes}
 use Rattle.sdo.specs.Requests as request
 use Rattle.sdo.specs.BlockRequests.{BlockRequest, block_request_in}
 use Rattle.sdo.specs.BlockRequests as block
 use Rattle.sdo.specs.Answers.{Answer, answer_in}
 use Rattle.sdo.specs.Answers as answer
 use Rattle.master.specs.declared.phase.Phase.TheVariants.{Over}
-use Rattle.master.specs.declared.phase.Failure.{Failure}
+use Rattle.master.specs.declared.phase.Aborted.{Aborted}
 use Rattle.master.specs.declared.phase.Finder.{Finder}
 use Rattle.master.specs.declared.phase.Finder.TheVariants.{Master, Node}
+use Rattle.master.specs.Limits.{segment_cap}
 use Rattle.master.specs.States.{State}
 use Rattle.master.specs.Calls.{Order, Started, begin}
-use Rattle.master.specs.Runs.{Call, Hear, after, sent_in, begins}
-
--- a request with which a value is whole, so that a node sets it: a start that carries the value, the last segment, the end of a block write
-abbrev pub completes : Request → Bool
-completes (request.InitiateDownload m (Expedited v)) = true
-completes (request.DownloadSegment t v last) = last
-completes (request.EndBlockDownload unused k) = true
-completes q = false
+use Rattle.master.specs.Runs.{Move, Hear, after, sent_in, begins}
 
 -- a request that carries a segment, or asks for one
 abbrev pub is_segment : Request → Bool
@@ -81,12 +74,7 @@ after_request w (Some q) = record {
 -- A segment of a block write: its number counts from those that were acknowledged.
 
 abbrev pub after_block : Notes → ℕ → Bool → BlockRequest → Notes
-after_block w acknowledged ended (block.Segment last k x) = record {
-  coming = Segments acknowledged (last || ended);
-  highest = max w.highest (acknowledged + k);
-  complete = w.complete;
-  abort = w.abort;
-}
+after_block w acknowledged ended (block.Segment last k x) = record w { coming = Segments acknowledged (last || ended); highest = max w.highest (acknowledged + k) }
 after_block w acknowledged ended (block.Abort m c) = record w { abort = option_or w.abort (Some (record { code = c; sender = Master })) }
 
 -- the bytes of a frame that the master sends
@@ -105,7 +93,7 @@ abort_taken (Some (answer.Abort m c)) = Some (record { code = c; sender = Node }
 abort_taken o = None
 
 abbrev pub after_answer : Notes → Option Answer → Notes
-after_answer w o = record { coming = coming_behind w.coming w.highest o; highest = w.highest; complete = w.complete; abort = option_or w.abort (abort_taken o) }
+after_answer w o = record w { coming = coming_behind w.coming w.highest o; abort = option_or w.abort (abort_taken o) }
 
 -- A frame that the master sends, or one that it takes. Any without the identifier of its direction is let go.
 
@@ -122,32 +110,32 @@ notes_on n w [] = w
 notes_on n w (p ∷ ps) = notes_on n (noted n w p) ps
 
 -- what passes in a call: the frame that is taken, then those that are sent
-abbrev pub taken_in : Call → List Passed
+abbrev pub taken_in : Move → List Passed
 taken_in (Hear (Some f)) = Taken f ∷ []
 taken_in c = []
 
-abbrev pub passed_in : State → Call → List Passed
+abbrev pub passed_in : State → Move → List Passed
 passed_in s c = taken_in c ++ map Sent (sent_in s c)
 
 -- calls of which none begins a transfer: what passed in them, and the master afterwards
 pub data Traffic (s : State) : List Passed → State → Type 0 where
   none : Traffic s [] s
-  more : (ps : List Passed) (t : State) (c : Call) → Traffic s ps t → begins t c ≡ false → Traffic s (ps ++ passed_in t c) (after t c)
+  more : (ps : List Passed) (t : State) (c : Move) → Traffic s ps t → begins t c ≡ false → Traffic s (ps ++ passed_in t c) (after t c)
 
--- The failure that the notes tell: that of the abort. The value may be set where it was whole, unless the node sent the abort. The number of the segment has 16 bits.
+-- The failure that the notes tell: that of the abort. The value may be set where it was whole, unless the node sent the abort.
 
 abbrev pub by_master : Finder → Bool
 by_master Master = true
 by_master Node = false
 
-abbrev pub failure_by : Notes → Abort → Failure
-failure_by w a = record { code = a.code; finder = a.sender; may_be_set = by_master a.sender && w.complete; segment = min w.highest 65535 }
+abbrev pub failure_by : Notes → Abort → Aborted
+failure_by w a = record { code = a.code; finder = a.sender; may_be_set = by_master a.sender && w.complete; segment = min w.highest segment_cap }
 
-abbrev pub failure_in : Notes → Option Failure
+abbrev pub failure_in : Notes → Option Aborted
 failure_in w = option_map (failure_by w) w.abort
 
 -- from the begin of a transfer on, whatever is heard and whenever it fails, its failure is the one that the notes tell
 abbrev pub FailuresTold : Type 0
 FailuresTold =
-    (s t : State) (m : Multiplexor) (o : Order) (x : Started) (ps : List Passed) (f : Failure)
+    (s t : State) (m : Multiplexor) (o : Order) (x : Started) (ps : List Passed) (f : Aborted)
     → (begin s m o).answer ≡ Ok x → Traffic (begin s m o).next ps t → t.phase ≡ Over (Err f) → failure_in (notes_on s.node blank (map Sent x.sending.frames ++ ps)) ≡ Some f

@@ -1,16 +1,14 @@
 -- What is done on the line: it is quieted first, or not, and then frames are sent to the node.
-use Rattle.std.specs.Prelude.{ℕ, zero, suc, ◌+◌, Bool, false, List, [], ◌∷◌}
+use Rattle.std.specs.Prelude.{Bool, false, List, [], ◌∷◌}
 use Rattle.wire.specs.declared.frame.Frame.{Frame}
-use Rattle.wire.specs.declared.node_number.NodeNumber.{NodeNumber}
-use Rattle.sdo.specs.BlockRequests as block
-use Rattle.wire.specs.FrameData.{padded}
-use Rattle.sdo.specs.Frames.{request_frame, block_request_frame}
-use Rattle.sdo.specs.Requests.{shown_request}
-use Rattle.sdo.specs.Segments.{segment}
-use Rattle.master.specs.declared.sending.Batch.{Batch}
-use Rattle.master.specs.declared.sending.Batch.TheVariants.{Nothing, Message, SubBlock}
+use Rattle.master.specs.declared.frames.Frames.{Frames}
+use Rattle.master.specs.declared.frames.Frames.TheVariants as left
+use Rattle.master.specs.declared.frames.Segments.{Segments}
+use Rattle.master.specs.declared.plan.Batch.{Batch}
+use Rattle.master.specs.declared.plan.Batch.TheVariants.{Nothing, One, SubBlock}
+use Rattle.master.specs.declared.plan.Plan.{Plan}
 use Rattle.master.specs.declared.sending.Sending as declared
-use Rattle.master.specs.Values.{is_last}
+use Rattle.master.specs.SubBlocks.{sub_block_from, sub_block_of}
 use Rattle.master.specs.States.{State}
 
 pub record Sending : Type 0 where
@@ -20,25 +18,23 @@ pub record Sending : Type 0 where
 abbrev pub silence : Sending
 silence = record { quiet = false; frames = [] }
 
--- the frame of segment b + k of a value, which is number k of its sub-block
-abbrev pub block_segment : NodeNumber → List ℕ → ℕ → ℕ → Frame
-block_segment n v b k = block_request_frame n (block.Segment (is_last v (b + k)) k (padded 7 (segment (b + k) v)))
+-- the frames that the code hands out
+abbrev pub segments_left : Segments → List Frame
+segments_left x = sub_block_from x.node x.value.now.items x.acknowledged x.next x.count
 
--- the frames of a sub-block from number k on
-abbrev pub sub_block_from : NodeNumber → List ℕ → ℕ → ℕ → ℕ → List Frame
-sub_block_from n v b k zero = []
-sub_block_from n v b k (suc count) = block_segment n v b k ∷ sub_block_from n v b (k + 1) count
+abbrev pub shown_frames : Frames → List Frame
+shown_frames left.Nothing = []
+shown_frames (left.One f) = f ∷ []
+shown_frames (left.SubBlock x) = segments_left x
 
--- the frames of a sub-block of some segments of a value behind the first b
-abbrev pub sub_block_of : NodeNumber → List ℕ → ℕ → ℕ → List Frame
-sub_block_of n v b count = sub_block_from n v b 1 count
+abbrev pub shown_sending : declared.Sending → Sending
+shown_sending x = record { quiet = x.quiet; frames = shown_frames x.frames }
 
--- the frames of a batch of the code, by the master's node and value
+-- the frames of a batch, by a master's node and value
 abbrev pub batch_frames : State → Batch → List Frame
 batch_frames s Nothing = []
-batch_frames s (Message q) = request_frame s.node (shown_request q) ∷ []
+batch_frames s (One f) = f ∷ []
 batch_frames s (SubBlock b count) = sub_block_of s.node s.value b count.number
 
--- what the code's answer asks to be done on the line
-abbrev pub shown_sending : State → declared.Sending → Sending
-shown_sending s x = record { quiet = x.quiet; frames = batch_frames s x.batch }
+abbrev pub planned : State → Plan → Sending
+planned s p = record { quiet = p.quiet; frames = batch_frames s p.batch }

@@ -2,9 +2,11 @@
 use Rattle.std.specs.Prelude.{ℕ, List, [], Some, None, Option, Result}
 use Rattle.wire.specs.declared.multiplexor.Multiplexor.{Multiplexor}
 use Rattle.wire.specs.declared.node_number.NodeNumber.{NodeNumber}
+use Rattle.master.specs.declared.direction.Direction.{Direction}
+use Rattle.master.specs.declared.direction.Direction.TheVariants.{Upload}
 use Rattle.master.specs.declared.phase.Phase.{Phase}
 use Rattle.master.specs.declared.phase.Phase.TheVariants.{Idle, Over}
-use Rattle.master.specs.declared.phase.Failure.{Failure}
+use Rattle.master.specs.declared.phase.Aborted.{Aborted}
 
 pub record State : Type 0 where
   pub node : NodeNumber
@@ -13,6 +15,8 @@ pub record State : Type 0 where
   -- how far the latest transfer is
   pub phase : Phase
   pub multiplexor : Multiplexor
+  -- which way the latest transfer goes
+  pub direction : Direction
   -- the value to be written, or the bytes read so far
   pub value : List ℕ
   -- the highest segment sent or asked for
@@ -24,11 +28,11 @@ pub record State : Type 0 where
 
 -- a master that has begun nothing
 abbrev pub fresh : NodeNumber → State
-fresh n = record { node = n; begun = 0; phase = Idle; multiplexor = record { index = 0; subindex = 0 }; value = []; highest = 0; ticks = 0; rest = 0 }
+fresh n = record { node = n; begun = 0; phase = Idle; multiplexor = record { index = 0; subindex = 0 }; direction = Upload; value = []; highest = 0; ticks = 0; rest = 0 }
 
 -- the master in another phase
 abbrev pub in_phase : Phase → State → State
-in_phase p s = record { node = s.node; begun = s.begun; phase = p; multiplexor = s.multiplexor; value = s.value; highest = s.highest; ticks = s.ticks; rest = s.rest }
+in_phase p s = record s { phase = p }
 
 -- a transfer that is over is cleared, an open one stays
 abbrev pub cleared_phase : Phase → Phase
@@ -47,6 +51,6 @@ abbrev pub uncleared : State → Option ℕ
 uncleared s = number_unless_idle s.phase s.begun
 
 -- how a transfer that is over ended
-abbrev pub ending_in : Phase → Option (Result (Unit {0}) Failure)
+abbrev pub ending_in : Phase → Option (Result (Unit {0}) Aborted)
 ending_in (Over e) = Some e
 ending_in p = None

@@ -10,7 +10,7 @@ use Rattle.sdo.specs.declared.crc_offer.CrcOffer.{CrcOffer}
 use Rattle.sdo.specs.declared.toggle.Toggle.{Toggle}
 use Rattle.sdo.specs.declared.toggle.Toggle.TheVariants.{Zero}
 use Rattle.sdo.specs.Segments.{segment, differs, other, same_toggle}
-use Rattle.wire.specs.Transfers.{Transfer, Expedited, Segmented}
+use Rattle.sdo.specs.Transfers.{Transfer, Expedited, Segmented}
 use Rattle.sdo.specs.Requests.{Request}
 use Rattle.sdo.specs.Requests as request
 use Rattle.sdo.specs.Answers.{Answer, answer_in}
@@ -26,8 +26,10 @@ use Rattle.master.specs.declared.phase.SubBlock.{SubBlock}
 use Rattle.master.specs.declared.phase.Finder.{Finder}
 use Rattle.master.specs.declared.phase.Finder.TheVariants.{Master, Node}
 use Rattle.master.specs.Values.{segments, unused, is_last, may_come, is_block_size, closing_crc}
+use Rattle.master.specs.Limits.{segment_cap, rest_ticks}
 use Rattle.master.specs.States.{State}
-use Rattle.master.specs.Sendings.{Sending, silence, sub_block_of}
+use Rattle.master.specs.SubBlocks.{sub_block_of}
+use Rattle.master.specs.Sendings.{Sending, silence}
 
 -- the master afterwards, what hear tells, and what is done on the line
 pub record Step : Type 0 where
@@ -42,18 +44,9 @@ may_have_set (awaiting.DownloadSegment t k) v = is_last v k
 may_have_set awaiting.EndBlockDownload v = true
 may_have_set w v = false
 
--- the transfer is over by a failure, and the master rests for 30 ticks
+-- the transfer is over by a failure, and the master rests
 abbrev pub failed : AbortCode → Finder → Bool → State → State
-failed c who maybe s = record {
-  node = s.node;
-  begun = s.begun;
-  phase = phase.Over (Err (record { code = c; finder = who; may_be_set = maybe; segment = s.highest }));
-  multiplexor = s.multiplexor;
-  value = s.value;
-  highest = s.highest;
-  ticks = s.ticks;
-  rest = 30;
-}
+failed c who maybe s = record s { phase = phase.Over (Err (record { code = c; finder = who; may_be_set = maybe; segment = s.highest })); rest = rest_ticks }
 
 -- the master ends the transfer: the line is quieted, and an abort is sent
 abbrev pub abandoned : Awaiting → AbortCode → State → State
@@ -69,16 +62,12 @@ abbrev pub unexpected : State → Awaiting → Step
 unexpected s w = found s w UnknownCommand
 
 -- the node ended the transfer, so nothing was set: the line is quieted
-unfoldable pub told : State → AbortCode → Step
-told s c = record { next = failed c Node false s; heard = heard.Over; sending = record { quiet = true; frames = [] } }
+unfoldable pub abort_heard : State → AbortCode → Step
+abort_heard s c = record { next = failed c Node false s; heard = heard.Over; sending = record { quiet = true; frames = [] } }
 
 -- the transfer has succeeded, with the value that was written or read
 abbrev pub done : State → List ℕ → Step
-done s v = record {
-  next = record { node = s.node; begun = s.begun; phase = phase.Over (Ok tt); multiplexor = s.multiplexor; value = v; highest = s.highest; ticks = s.ticks; rest = s.rest };
-  heard = heard.Over;
-  sending = silence;
-}
+done s v = record { next = record s { phase = phase.Over (Ok tt); value = v }; heard = heard.Over; sending = silence }
 
 -- the frame is let go, or none was there
 abbrev pub unmoved : State → Heard → Step
@@ -87,7 +76,7 @@ unmoved s h = record { next = s; heard = h; sending = silence }
 -- frames are sent, and the next answer is awaited; h is the highest segment sent or asked for
 abbrev pub send : State → Awaiting → ℕ → List ℕ → List Frame → Step
 send s w h v fs = record {
-  next = record { node = s.node; begun = s.begun; phase = phase.Open w; multiplexor = s.multiplexor; value = v; highest = h; ticks = 0; rest = s.rest };
+  next = record s { phase = phase.Open w; value = v; highest = h; ticks = 0 };
   heard = heard.Sent;
   sending = record { quiet = false; frames = fs };
 }
@@ -99,9 +88,9 @@ ask s q = request_frame s.node q ∷ []
 abbrev pub send_segment : State → Toggle → ℕ → Step
 send_segment s t k = send s (awaiting.DownloadSegment t k) k s.value (ask s (request.DownloadSegment t (segment k s.value) (is_last s.value k)))
 
--- the request for one more segment of a read; its number has 16 bits and stops there
+-- the request for one more segment of a read
 abbrev pub ask_segment : State → Toggle → Option ℕ → List ℕ → Step
-ask_segment s t size v = send s (awaiting.UploadSegment t size) (min (s.highest + 1) 65535) v (ask s (request.UploadSegment t))
+ask_segment s t size v = send s (awaiting.UploadSegment t size) (min (s.highest + 1) segment_cap) v (ask s (request.UploadSegment t))
 
 -- a sub-block of some segments behind the first b
 abbrev pub send_sub_block : State → CrcOffer → ℕ → ℕ → ℕ → Step
@@ -209,7 +198,7 @@ module _ (s : State) where
   answered w (answer.InitiateBlockDownload m c n) = hear_initiate_block w m c n
   answered w (answer.AcknowledgeBlock a n) = hear_acknowledgement w a n
   answered w answer.EndBlockDownload = hear_end w
-  answered w (answer.Abort m c) = told s c
+  answered w (answer.Abort m c) = abort_heard s c
 
   abbrev pub read : Awaiting → Option Answer → Step
   read w None = unexpected s w

@@ -2,6 +2,7 @@
 ghost use Rattle.std.specs.Prelude.{◌≡◌, ◌≤◌, length};
 ghost use Rattle.master.specs.States.{fresh, clear, uncleared, ending_in};
 
+use crate::direction::Direction;
 use crate::phase::{Ending, Phase};
 use crate::value::Value;
 use std::marker::Model;
@@ -11,10 +12,21 @@ mod answers;
 mod beginning;
 mod blocks;
 mod ends;
-mod frames;
+mod going;
 mod hearing;
+mod lending;
 mod reads;
 mod time;
+mod writes;
+
+/// The ticks for which a master rests after a transfer that has failed.
+pub const REST: u8 = 30;
+
+/// The most transfers that a master begins.
+pub(crate) const MOST_TRANSFERS: u16 = 65_535;
+
+/// The number at which the segments of a read are no longer counted.
+pub(crate) const SEGMENT_CAP: u16 = 65_535;
 
 /// A master by the node that it asks, and how far its latest transfer is.
 #[derive(Drop)]
@@ -23,6 +35,7 @@ pub struct Master {
     begun: u16,
     phase: Phase,
     multiplexor: Multiplexor,
+    direction: Direction,
     value: Value,
     highest: u16,
     ticks: u8,
@@ -34,7 +47,7 @@ impl Model for Master {
 
     ghost Value = { State };
 
-    ghost view = { λ m. record { node = m.node; begun = m.begun; phase = m.phase; multiplexor = m.multiplexor; value = m.value.items; highest = m.highest; ticks = m.ticks; rest = m.rest } };
+    ghost view = { λ m. record { node = m.node; begun = m.begun; phase = m.phase; multiplexor = m.multiplexor; direction = m.direction; value = m.value.items; highest = m.highest; ticks = m.ticks; rest = m.rest } };
 }
 
 impl Master {
@@ -47,6 +60,7 @@ impl Master {
             begun: 0,
             phase: Phase::Idle,
             multiplexor: Multiplexor::default(),
+            direction: Direction::Upload,
             value: Value::new(),
             highest: 0,
             ticks: 0,
@@ -69,6 +83,13 @@ impl Master {
         ensures { result ≡ self.now.multiplexor }
     {
         self.multiplexor
+    }
+
+    /// Which way the latest transfer goes.
+    pub fn direction(&self) -> Direction
+        ensures { result ≡ self.now.direction }
+    {
+        self.direction
     }
 
     /// How the latest transfer ended; none where it is open or was cleared.

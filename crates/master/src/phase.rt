@@ -14,7 +14,6 @@ pub enum Phase {
 }
 
 /// The answer that an open transfer awaits.
-// A toggle with a number or a size is no struct: two functions take each pair, and their cases name it here.
 #[derive(Clone, Copy)]
 pub enum Awaiting {
     /// That to the start of a write that carries its value.
@@ -49,15 +48,14 @@ pub struct SubBlock {
 }
 
 /// How a transfer ended: by success, or by an abort, sent or heard.
-pub type Ending = Result<(), Failure>;
+pub type Ending = Result<(), Aborted>;
 
 /// Why a transfer failed, and how far it was.
 #[derive(Clone, Copy)]
-pub struct Failure {
+pub struct Aborted {
     pub code: AbortCode,
     pub finder: Finder,
     /// Whether the node may have set the value all the same.
-    // Not in `Finder::Master`: a report tells it of every failure, and would have to match on the finder first.
     pub may_be_set: bool,
     /// The highest segment of the value that was sent or asked for; 0 if none was.
     pub segment: u16,

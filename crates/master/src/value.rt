@@ -1,6 +1,6 @@
 //! The value that is written, or what has been read of one, and the segments that it is cut into.
 ghost use Rattle.std.specs.Prelude.{◌≡◌, ◌≤◌, IsTrue};
-ghost use Rattle.wire.specs.FrameData.{padded, value_in};
+ghost use Rattle.sdo.specs.FrameData.{padded, value_in};
 ghost use Rattle.sdo.specs.Segments.{segment};
 ghost use Rattle.master.specs.Values.{segments, unused, is_last, closing_crc};
 

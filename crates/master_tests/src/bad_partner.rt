@@ -128,7 +128,7 @@ fn foreign_frames_are_dropped(rt: HostRuntime) -> Result<(), Fail> {
     for identifier in [Identifier::of_answers(node), Identifier::of_requests(node)] {
         let hearing = master.hear(Some(Frame { identifier, bytes }));
         assert!(rt; hearing.heard == Heard::Dropped);
-        assert!(rt; master.frame(hearing.sending.batch, 0).is_none());
+        check_frames(&rt, hearing.sending.frames, &[])?;
     }
     check_done(&rt, &mut master, bytes)
 }
@@ -151,7 +151,7 @@ fn an_abort_ends_any_transfer(rt: HostRuntime) -> Result<(), Fail> {
         let mut master = awaiting(awaited)?;
         let hearing = hear(&mut master, [0x9f, 0, 0, 0, 2, 0, 1, 6]);
         assert!(rt; hearing.heard == Heard::Over && hearing.sending.quiet);
-        assert!(rt; master.frame(hearing.sending.batch, 0).is_none());
+        check_frames(&rt, hearing.sending.frames, &[])?;
         let failure = failure(&master)?;
         assert!(rt; failure.code == AbortCode::ReadOnly);
         assert!(rt; failure.finder == Finder::Node && !failure.may_be_set);

@@ -13,11 +13,10 @@ fn the_ramp_is_set(rt: HostRuntime) -> Result<(), Fail> {
     };
     let begun = begun(master.begin_write(Method::Expedited, ramp, &[0xe8, 3]))?;
     assert!(rt; begun.number == 1 && begun.sending.quiet);
-    check_one(
+    check_frames(
         &rt,
-        &master,
-        begun.sending,
-        [0x2b, 0, 0x20, 1, 0xe8, 3, 0, 0],
+        begun.sending.frames,
+        &[[0x2b, 0, 0x20, 1, 0xe8, 3, 0, 0]],
     )?;
     check_done(&rt, &mut master, [0x60, 0, 0x20, 1, 0, 0, 0, 0])
 }
@@ -30,7 +29,7 @@ fn the_name_is_read(rt: HostRuntime) -> Result<(), Fail> {
         subindex: 0,
     };
     let begun = begun(master.begin_read(name))?;
-    check_one(&rt, &master, begun.sending, [0x40, 8, 0x10, 0, 0, 0, 0, 0])?;
+    check_frames(&rt, begun.sending.frames, &[[0x40, 8, 0x10, 0, 0, 0, 0, 0]])?;
     check_goes_on(
         &rt,
         &mut master,
@@ -86,7 +85,7 @@ fn digits_go_in_segments(rt: HostRuntime) -> Result<(), Fail> {
 fn a_block_write_starts_with_size_and_crc(rt: HostRuntime) -> Result<(), Fail> {
     let mut master = fresh();
     let begun = begun(master.begin_write(Method::Block, PLACE, &DIGITS))?;
-    check_one(&rt, &master, begun.sending, [0xc6, 1, 0x20, 0, 9, 0, 0, 0])
+    check_frames(&rt, begun.sending.frames, &[[0xc6, 1, 0x20, 0, 9, 0, 0, 0]])
 }
 
 #[test]
@@ -95,10 +94,8 @@ fn digits_go_by_block(rt: HostRuntime) -> Result<(), Fail> {
     let hearing = hear(&mut master, [0xa4, 1, 0x20, 0, 127, 0, 0, 0]);
     assert!(rt; hearing.heard == Heard::Sent);
     let first = [1, 0x31, 0x32, 0x33, 0x34, 0x35, 0x36, 0x37];
-    check_frame(&rt, &master, hearing.sending, 0, first)?;
     let second = [0x82, 0x38, 0x39, 0, 0, 0, 0, 0];
-    check_frame(&rt, &master, hearing.sending, 1, second)?;
-    assert!(rt; master.frame(hearing.sending.batch, 2).is_none());
+    check_frames(&rt, hearing.sending.frames, &[first, second])?;
     let end = [0xd5, 0xc3, 0x31, 0, 0, 0, 0, 0];
     check_goes_on(&rt, &mut master, [0xa2, 2, 127, 0, 0, 0, 0, 0], end)?;
     check_done(&rt, &mut master, [0xa1, 0, 0, 0, 0, 0, 0, 0])

@@ -1,5 +1,7 @@
 //! What the tests of a master of node 5 have in common.
-use master::{BeginRefusal, Begun, Failure, Finder, Heard, Hearing, Master, Method, Sending};
+use master::{
+    Aborted, BeginRefusal, Begun, Finder, Frames, Heard, Hearing, Master, Method, Sending,
+};
 use std::process::Abort;
 use std::test::Fail;
 use wire::{AbortCode, Frame, Identifier, Multiplexor, NodeNumber};
@@ -19,12 +21,12 @@ pub(crate) fn fresh() -> Master {
 }
 
 /// The transfer that was begun.
-pub(crate) fn begun(answer: Result<Begun, BeginRefusal>) -> Result<Begun, Fail> {
+pub(crate) fn begun(answer: Result<Begun<'_>, BeginRefusal>) -> Result<Begun<'_>, Fail> {
     answer.map_err(|_| Fail::new("refused"))
 }
 
 /// Why no transfer was begun.
-pub(crate) fn refusal(answer: Result<Begun, BeginRefusal>) -> Result<BeginRefusal, Fail> {
+pub(crate) fn refusal(answer: Result<Begun<'_>, BeginRefusal>) -> Result<BeginRefusal, Fail> {
     answer.err().ok_or_else(|| Fail::new("begun"))
 }
 
@@ -104,36 +106,23 @@ pub(crate) fn awaiting(awaited: Awaited) -> Result<Master, Fail> {
 }
 
 /// Lets a master hear a frame of node 5.
-pub(crate) fn hear(master: &mut Master, bytes: [u8; 8]) -> Hearing {
+pub(crate) fn hear(master: &mut Master, bytes: [u8; 8]) -> Hearing<'_> {
     let identifier = Identifier::of_answers(NodeNumber::nearest(5));
     master.hear(Some(Frame { identifier, bytes }))
 }
 
-/// Checks the bytes of the frame at a place of a sending.
-pub(crate) fn check_frame(
+/// Checks that these frames go to node 5, and no others.
+pub(crate) fn check_frames(
     rt: &impl Abort,
-    master: &Master,
-    sending: Sending,
-    place: usize,
-    bytes: [u8; 8],
+    mut frames: Frames<'_>,
+    expected: &[[u8; 8]],
 ) -> Result<(), Fail> {
-    let frame = master
-        .frame(sending.batch, place)
-        .ok_or_else(|| Fail::new("no frame"))?;
-    assert!(rt; frame.identifier.number() == 0x605);
-    assert!(rt; frame.bytes == bytes);
-    Ok(())
-}
-
-/// Checks that a sending has one frame with these bytes.
-pub(crate) fn check_one(
-    rt: &impl Abort,
-    master: &Master,
-    sending: Sending,
-    bytes: [u8; 8],
-) -> Result<(), Fail> {
-    check_frame(rt, master, sending, 0, bytes)?;
-    assert!(rt; master.frame(sending.batch, 1).is_none());
+    for bytes in expected {
+        let frame = frames.next().ok_or_else(|| Fail::new("no frame"))?;
+        assert!(rt; frame.identifier.number() == 0x605);
+        assert!(rt; frame.bytes == *bytes);
+    }
+    assert!(rt; frames.next().is_none());
     Ok(())
 }
 
@@ -147,7 +136,7 @@ pub(crate) fn check_goes_on(
     let hearing = hear(master, heard);
     assert!(rt; hearing.heard == Heard::Sent);
     assert!(rt; !hearing.sending.quiet);
-    check_one(rt, master, hearing.sending, sent)
+    check_frames(rt, hearing.sending.frames, &[sent])
 }
 
 /// Checks that an answer ends the transfer by success.
@@ -155,7 +144,7 @@ pub(crate) fn check_done(rt: &impl Abort, master: &mut Master, heard: [u8; 8]) -
     let hearing = hear(master, heard);
     assert!(rt; hearing.heard == Heard::Over);
     assert!(rt; !hearing.sending.quiet);
-    assert!(rt; master.frame(hearing.sending.batch, 0).is_none());
+    check_frames(rt, hearing.sending.frames, &[])?;
     match master.ending() {
         Some(Ok(())) => Ok(()),
         _ => Err(Fail::new("not done")),
@@ -163,7 +152,7 @@ pub(crate) fn check_done(rt: &impl Abort, master: &mut Master, heard: [u8; 8]) -
 }
 
 /// The failure of a master's transfer.
-pub(crate) fn failure(master: &Master) -> Result<Failure, Fail> {
+pub(crate) fn failure(master: &Master) -> Result<Aborted, Fail> {
     match master.ending() {
         Some(Err(failure)) => Ok(failure),
         _ => Err(Fail::new("not failed")),
@@ -179,19 +168,23 @@ pub(crate) fn check_found(
 ) -> Result<(), Fail> {
     let hearing = hear(master, heard);
     assert!(rt; hearing.heard == Heard::Over);
-    check_abort(rt, master, hearing.sending, code)
+    check_abort(rt, hearing.sending, code)?;
+    check_failed(rt, master, code)
 }
 
-/// Checks that the master has ended the transfer by an abort of 2001:00.
+/// Checks that the line is quieted, and an abort of 2001:00 is sent.
 pub(crate) fn check_abort(
     rt: &impl Abort,
-    master: &Master,
-    sending: Sending,
+    sending: Sending<'_>,
     code: AbortCode,
 ) -> Result<(), Fail> {
     let [a, b, c, d] = u32::from(code).to_le_bytes();
     assert!(rt; sending.quiet);
-    check_one(rt, master, sending, [0x80, 1, 0x20, 0, a, b, c, d])?;
+    check_frames(rt, sending.frames, &[[0x80, 1, 0x20, 0, a, b, c, d]])
+}
+
+/// Checks that the master itself has ended the transfer.
+pub(crate) fn check_failed(rt: &impl Abort, master: &Master, code: AbortCode) -> Result<(), Fail> {
     let failure = failure(master)?;
     assert!(rt; failure.code == code);
     assert!(rt; failure.finder == Finder::Master);

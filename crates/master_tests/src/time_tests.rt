@@ -20,7 +20,8 @@ fn the_tenth_tick_ends_a_transfer(rt: HostRuntime) -> Result<(), Fail> {
     assert!(rt; master.hear(None).heard == Heard::NothingWaited);
     let tick = master.tick();
     assert!(rt; tick.ended);
-    check_abort(&rt, &master, tick.sending, AbortCode::TimedOut)?;
+    check_abort(&rt, tick.sending, AbortCode::TimedOut)?;
+    check_failed(&rt, &master, AbortCode::TimedOut)?;
     assert!(rt; failure(&master)?.may_be_set);
     Ok(())
 }
@@ -42,7 +43,8 @@ fn an_answer_starts_the_count_again(rt: HostRuntime) -> Result<(), Fail> {
 fn a_master_rests_for_30_ticks(rt: HostRuntime) -> Result<(), Fail> {
     let mut master = reading()?;
     let sending = master.give_up();
-    check_abort(&rt, &master, sending, AbortCode::GeneralError)?;
+    check_abort(&rt, sending, AbortCode::GeneralError)?;
+    check_failed(&rt, &master, AbortCode::GeneralError)?;
     master.clear();
     pass(&rt, &mut master, 29);
     assert!(rt; u8::from(refusal(master.begin_read(PLACE))?) == 2);
@@ -57,7 +59,7 @@ fn giving_up_needs_an_open_transfer(rt: HostRuntime) -> Result<(), Fail> {
     check_done(&rt, &mut master, [0x60, 1, 0x20, 0, 0, 0, 0, 0])?;
     let sending = master.give_up();
     assert!(rt; !sending.quiet);
-    assert!(rt; master.frame(sending.batch, 0).is_none());
+    check_frames(&rt, sending.frames, &[])?;
     master.clear();
     assert!(rt; master.begin_read(PLACE).is_ok());
     Ok(())

@@ -11,7 +11,7 @@ use Rattle.node.specs.States.{State, Idle}
 use Rattle.node.specs.Steps.{Step, Setting, step}
 use Rattle.node.specs.Nodes.{dictionary_by, commits_by, timed_out, waited, tick}
 use Rattle.node.specs.Laws.{Commits, CommitsTold, Leaves, OthersLeave, TicksLeave, AbortsLeaveIdle}
-use Rattle.node.proofs.Sorting.{Kind, says_abort, commits, refuses, hears, answers, drops, keeps, waits, step-kind}
+use Rattle.node.proofs.Sorting.{Kind, says_abort, commits, refuses, stops, answers, drops, keeps, waits, step-kind}
 
 -- what a step that tells of a commit does
 record Did (d : List Entry) (p : Step) : Type 0 where
@@ -24,7 +24,7 @@ record Did (d : List Entry) (p : Step) : Type 0 where
 did : (d : List Entry) (p : Step) → Kind d p → p.served ≡ Committed → Did d p
 did d p (commits m v a e) h = record { at = m; value = v; free = e; set = refl; over = refl }
 did d p (refuses m c) h = cc
-did d p hears h = cc
+did d p stops h = cc
 did d p (answers t a q) h = cc
 did d p (drops t) h = cc
 did d p (keeps t) h = cc
@@ -33,7 +33,7 @@ did d p (waits t) h = cc
 left : (d : List Entry) (p : Step) → Kind d p → (p.served ≡ Committed → ⊥) → p.set ≡ None
 left d p (commits m v a e) h = absurd (h refl)
 left d p (refuses m c) h = refl
-left d p hears h = refl
+left d p stops h = refl
 left d p (answers t a q) h = refl
 left d p (drops t) h = refl
 left d p (keeps t) h = refl
@@ -76,7 +76,7 @@ ticks_leave s = counted _ _ s
 idle_by : (d : List Entry) (p : Step) → Kind d p → (m : Multiplexor) (c : AbortCode) → p.reply ≡ Some (answer.Abort m c) → p.next ≡ Idle
 idle_by d p (commits n v a e) m c h = refl
 idle_by d p (refuses n x) m c h = refl
-idle_by d p hears m c h = refl
+idle_by d p stops m c h = refl
 idle_by d p (answers t a q) m c h =
     let same : a ≡ answer.Abort m c = cc in
     let no : true ≡ false = ap says_abort (sym same) ∙ q in

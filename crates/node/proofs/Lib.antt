@@ -1,7 +1,6 @@
 pub mod AnswerLaws
 pub mod Choosing
 pub mod CommitLaws
-pub mod Loading
 pub mod OnceLaws
 pub mod RunLaws
 pub mod Sorting

@@ -5,12 +5,12 @@ use Rattle.wire.specs.Frames.{request_identifier}
 use Rattle.sdo.specs.Requests.{Request, request_in}
 use Rattle.sdo.specs.Requests as request
 use Rattle.dictionary.specs.Entries.{Entry}
-use Rattle.node.specs.States.{State, Transfer, Idle}
-use Rattle.node.specs.Steps.{Step, Setting, dropped, understood, heard, step}
+use Rattle.node.specs.States.{State, Activity, Idle}
+use Rattle.node.specs.Steps.{Step, Setting, dropped, understood, interpreted, step}
 use Rattle.node.specs.Nodes.{timed_out, waited, tick}
 use Rattle.node.specs.Laws.{in_block}
 use Rattle.node.specs.Runs.{Scene, Event, Serve, Tick, happened, asks_start, starts, startless, number_of, set_in, commits_in, OneAtMost}
-use Rattle.node.proofs.Sorting.{Kind, commits, refuses, hears, answers, drops, keeps, waits, step-kind}
+use Rattle.node.proofs.Sorting.{Kind, commits, refuses, stops, answers, drops, keeps, waits, step-kind}
 
 -- nothing is set, and the node is idle
 record Rests (p : Step) : Type 0 where
@@ -29,18 +29,18 @@ rests d n (Some (request.EndBlockDownload unused k)) h = record { unset = refl; 
 rests d n (Some (request.Abort m c)) h = record { unset = refl; over = refl }
 
 -- of a frame that is the node's or not
-abbrev Startless : Bool → Transfer → List ℕ → Type 0
+abbrev Startless : Bool → Activity → List ℕ → Type 0
 Startless own t bytes = cond own (cond (in_block t) false (asks_start (request_in bytes))) false ≡ false
 
 module _ (d : List Entry) (n : ℕ) (bytes : List ℕ) where
-  taken_rests : (own : Bool) → Startless own Idle bytes → Rests (cond own (heard d n Idle bytes) (dropped Idle))
+  taken_rests : (own : Bool) → Startless own Idle bytes → Rests (cond own (interpreted d n Idle bytes) (dropped Idle))
   taken_rests true h = rests d n (request_in bytes) h
   taken_rests false h = record { unset = refl; over = refl }
 
-  idle_rests : (own : Bool) (t : Transfer) → Idle ≡ t → Startless own t bytes → Rests (cond own (heard d n t bytes) (dropped t))
-  idle_rests own t e = subst (λ (t : Transfer). Startless own t bytes → Rests (cond own (heard d n t bytes) (dropped t))) e (taken_rests own)
+  idle_rests : (own : Bool) (t : Activity) → Idle ≡ t → Startless own t bytes → Rests (cond own (interpreted d n t bytes) (dropped t))
+  idle_rests own t e = subst (λ (t : Activity). Startless own t bytes → Rests (cond own (interpreted d n t bytes) (dropped t))) e (taken_rests own)
 
-ticked : (x y : Bool) (s : State) → s.transfer ≡ Idle → (cond x (record { next = s; reply = None }) (cond y (timed_out s) (waited s))).next.transfer ≡ Idle
+ticked : (x y : Bool) (s : State) → s.activity ≡ Idle → (cond x (record { next = s; reply = None }) (cond y (timed_out s) (waited s))).next.activity ≡ Idle
 ticked true y s e = e
 ticked false true s e = refl
 ticked false false s e = e
@@ -48,14 +48,14 @@ ticked false false s e = e
 -- an event that is no start leaves an idle node idle and sets nothing
 record Stays (x : Scene) (e : Event) : Type 0 where
   none : set_in x e ≡ 0
-  idle : (happened e x).node.transfer ≡ Idle
+  idle : (happened e x).node.activity ≡ Idle
 
-stays : (x : Scene) (e : Event) → x.node.transfer ≡ Idle → starts x.node e ≡ false → Stays x e
+stays : (x : Scene) (e : Event) → x.node.activity ≡ Idle → starts x.node e ≡ false → Stays x e
 unfolding step tick
 stays x (Serve None) i h = record { none = refl; idle = i }
 stays x (Serve (Some f)) i h =
     let own : Bool = eqb f.identifier.number (request_identifier x.node.number).number in
-    let r = idle_rests x.dictionary x.node.block_size.number f.bytes own x.node.transfer (sym i) h in
+    let r = idle_rests x.dictionary x.node.block_size.number f.bytes own x.node.activity (sym i) h in
     record { none = ap number_of r.unset; idle = r.over }
 stays x Tick i h = record { none = refl; idle = ticked _ _ x.node i }
 
@@ -68,7 +68,7 @@ apart : (b r : Bool) → cond b false r ≡ true → Apart b r
 apart true r h = cc
 apart false r h = record { first = refl; others = h }
 
-none_set : (es : List Event) (x : Scene) → x.node.transfer ≡ Idle → startless x es ≡ true → commits_in x es ≡ 0
+none_set : (es : List Event) (x : Scene) → x.node.activity ≡ Idle → startless x es ≡ true → commits_in x es ≡ 0
 none_set [] x i h = refl
 none_set (e ∷ es) x i h =
     let a = apart (starts x.node e) (startless (happened e x) es) h in
@@ -80,17 +80,17 @@ none_set (e ∷ es) x i h =
 idle_or_unset : (d : List Entry) (p : Step) → Kind d p → (p.set ≡ None) ⊎ (p.next ≡ Idle)
 idle_or_unset d p (commits m v a e) = inr refl
 idle_or_unset d p (refuses m c) = inl refl
-idle_or_unset d p hears = inl refl
+idle_or_unset d p stops = inl refl
 idle_or_unset d p (answers t a q) = inl refl
 idle_or_unset d p (drops t) = inl refl
 idle_or_unset d p (keeps t) = inl refl
 idle_or_unset d p (waits t) = inl refl
 
-by_frame : (x : Scene) (f : Frame) → ((step x.dictionary x.node (Some f)).set ≡ None) ⊎ ((step x.dictionary x.node (Some f)).next ≡ Idle) → (set_in x (Serve (Some f)) ≡ 0) ⊎ ((happened (Serve (Some f)) x).node.transfer ≡ Idle)
+by_frame : (x : Scene) (f : Frame) → ((step x.dictionary x.node (Some f)).set ≡ None) ⊎ ((step x.dictionary x.node (Some f)).next ≡ Idle) → (set_in x (Serve (Some f)) ≡ 0) ⊎ ((happened (Serve (Some f)) x).node.activity ≡ Idle)
 by_frame x f (inl h) = inl (ap number_of h)
 by_frame x f (inr h) = inr h
 
-by_event : (x : Scene) (e : Event) → (set_in x e ≡ 0) ⊎ ((happened e x).node.transfer ≡ Idle)
+by_event : (x : Scene) (e : Event) → (set_in x e ≡ 0) ⊎ ((happened e x).node.activity ≡ Idle)
 unfolding step
 by_event x (Serve None) = inl refl
 by_event x (Serve (Some f)) = by_frame x f (idle_or_unset x.dictionary (step x.dictionary x.node (Some f)) (step-kind x.dictionary x.node (Some f)))
@@ -105,7 +105,7 @@ one_in x (Serve f) = one_by (step x.dictionary x.node f).set
 one_in x Tick = omega arith
 
 -- one event, and then some: where it sets nothing, those count, and else those set nothing
-joined : (x : Scene) (e : Event) (es : List Event) → (set_in x e ≡ 0) ⊎ ((happened e x).node.transfer ≡ Idle) → startless (happened e x) es ≡ true → commits_in (happened e x) es ≤ 1 → commits_in x (e ∷ es) ≤ 1
+joined : (x : Scene) (e : Event) (es : List Event) → (set_in x e ≡ 0) ⊎ ((happened e x).node.activity ≡ Idle) → startless (happened e x) es ≡ true → commits_in (happened e x) es ≤ 1 → commits_in x (e ∷ es) ≤ 1
 joined x e es (inl none) h rest = omega (arith, none, rest)
 joined x e es (inr idle) h rest =
     let one = one_in x e in

@@ -1,5 +1,6 @@
 -- In every run the notes agree with the node.
-use Rattle.std.proofs.Common.{◌≡◌, ℕ, ◌+◌, ◌-◌, ◌≤◌, Bool, true, false, cond, not, eqb, ltb, leb, List, [], ◌∷◌, ◌++◌, length, take, Some, None, Option, sym, refl, ap, ◌∙◌, subst, arith, eq-eqb, ne_eqb, eqb-true}
+use Rattle.std.proofs.Common.{◌≡◌, ℕ, ◌+◌, ◌-◌, ◌≤◌, Bool, true, false, cond, eqb, ltb, leb, List, [], ◌∷◌, ◌++◌, length, take, Some, None, Option, sym, refl, ap, ◌∙◌, subst, arith, eq-eqb, ne_eqb, eqb-true}
+use Rattle.std.proofs.lemmas.Bool.{not-false}
 use Rattle.wire.specs.declared.abort_code.AbortCode.{AbortCode}
 use Rattle.wire.specs.declared.abort_code.AbortCode.TheVariants.{UnknownCommand, LengthMismatch, ToggleNotAlternated, CrcError}
 use Rattle.wire.specs.declared.multiplexor.Multiplexor.{Multiplexor}
@@ -9,16 +10,15 @@ use Rattle.crc.specs.Registers.{crc}
 use Rattle.sdo.specs.declared.crc_offer.CrcOffer.{CrcOffer}
 use Rattle.sdo.specs.declared.crc_offer.CrcOffer.TheVariants.{Offered, NotOffered}
 use Rattle.sdo.specs.declared.toggle.Toggle.{Toggle}
-use Rattle.sdo.specs.declared.toggle.Toggle.TheVariants.{Zero, One}
 use Rattle.sdo.specs.Answers.{Answer}
 use Rattle.sdo.specs.Answers as answer
 use Rattle.sdo.specs.BlockRequests.{BlockRequest, block_request_in}
 use Rattle.sdo.specs.BlockRequests as block
-use Rattle.sdo.specs.Requests.{Request, request_in}
+use Rattle.sdo.specs.Requests.{Request, request_in, completes}
 use Rattle.sdo.specs.Requests as request
-use Rattle.wire.specs.FrameData.{fits_expedited}
+use Rattle.sdo.specs.FrameData.{fits_expedited}
 use Rattle.sdo.specs.Segments.{differs, other, same_toggle}
-use Rattle.wire.specs.Transfers as coming
+use Rattle.sdo.specs.Transfers as coming
 use Rattle.dictionary.specs.Entries.{Entry}
 use Rattle.dictionary.specs.Questions.{value_at}
 use Rattle.dictionary.specs.Verdicts.{write_verdict, start_verdict, read_verdict}
@@ -28,15 +28,16 @@ use Rattle.node.specs.declared.reception.Reception.{Reception}
 use Rattle.node.specs.declared.served.Served.{Served}
 use Rattle.node.specs.declared.served.Served.TheVariants.{Aborted, Dropped}
 use Rattle.node.specs.Buffers.{full}
-use Rattle.node.specs.States.{State, Transfer, Idle, Download, Upload, BlockDownload, BlockEnd, is_idle, named}
-use Rattle.node.specs.Steps.{Step, Setting, refused, ended, answered, dropped, commit, completed, received, download_segment, crc_differs, upload_segment, block_end, asked, understood, ends, keep, pass_over, spoil, asked_in_block, heard, step}
+use Rattle.node.specs.States.{State, Activity, Idle, Download, Upload, BlockDownload, BlockEnd, is_idle, named}
+use Rattle.node.specs.Steps.{Step, Setting, refused, ended, answered, dropped, commit, completed, received, download_segment, crc_differs, upload_segment, block_end, asked, understood, ends, keep, pass_over, spoil, asked_in_block, interpreted, step}
 use Rattle.node.specs.Nodes.{timed_out, waited, tick}
-use Rattle.node.specs.Runs.{Notes, Nothing, Segments, Block, Whole, noted, noted_start, noted_toggle, extended, to, told, after_request, after_known, acknowledged, after_block, notes_after, notes_by, Scene, Event, Serve, happened, run, past, step_after, carried, completes, announced, given_crc, offered, Completes, Says, InTurn, ValuesCarried, TogglesAlternate}
+use Rattle.node.specs.Runs.{Notes, Nothing, Segments, Block, Whole, noted, noted_start, noted_toggle, extended, to, noted_by, after_request, after_known, acknowledged, after_block, notes_after, notes_by, Scene, Event, Serve, happened, run, past, step_after, carried, announced_size, given_crc, offered, Completes, Says, InTurn, ValuesCarried, TogglesAlternate}
 use Rattle.node.specs.Runs as runs
+use Rattle.sdo.proofs.Comparing.{equal_toggles, as_announced}
 use Rattle.node.proofs.Choosing.{chosen, judged}
 
 -- the notes agree with a transfer
-abbrev Agrees : Notes → Transfer → Type 0
+abbrev Agrees : Notes → Activity → Type 0
 Agrees w Idle = w ≡ Nothing
 Agrees w (Download z u v) = w ≡ Segments z u v
 Agrees w (Upload m u v) = w ≡ Nothing
@@ -45,31 +46,17 @@ Agrees w (BlockEnd b v) = w ≡ Whole b v
 
 -- after a step on a request the notes agree again, a value that is set is the one that the request completes, and a segment that is answered was in turn
 record Fair (w : Notes) (q : Request) (p : Step) : Type 0 where
-  agrees : Agrees (told p.served (after_request w q) w w) p.next
+  agrees : Agrees (noted_by p.served (after_request w q) w w) p.next
   whole : (x : Setting) → p.set ≡ Some x → Completes w q x
   turn : (t : Toggle) → p.reply ≡ Some (answer.DownloadSegment t) → InTurn w t q
 
 unset : (x : Setting) (P : Type 0) → ◌≡◌ {A = Option Setting} None (Some x) → P
 unset x P e = cc
 
--- an announced size that is not refused is the number of bytes, and so it is with a CRC
-by_not : (x : Bool) → not x ≡ false → x ≡ true
-by_not true e = refl
-by_not false e = cc
-
-as_announced : (o : Option ℕ) (n : ℕ) → differs o n ≡ false → (k : ℕ) → o ≡ Some k → n ≡ k
-as_announced None n e k h = cc
-as_announced (Some size) n e k h = let same : size ≡ n = eqb-true size n (by_not (eqb size n) e) in cc
-
+-- a CRC that is not refused is that of the bytes
 as_given : (c : CrcOffer) (k : ℕ) (v : List ℕ) → crc_differs c k v ≡ false → (n : ℕ) → offered c k ≡ Some n → crc v ≡ n
-as_given Offered k v e n h = let same : k ≡ crc v = eqb-true k (crc v) (by_not (eqb k (crc v)) e) in cc
+as_given Offered k v e n h = let same : k ≡ crc v = eqb-true k (crc v) (not-false (eqb k (crc v)) e) in cc
 as_given NotOffered k v e n h = cc
-
-alike : (t u : Toggle) → same_toggle t u ≡ true → t ≡ u
-alike Zero Zero e = refl
-alike Zero One e = cc
-alike One Zero e = cc
-alike One One e = refl
 
 -- an answer to no segment of a write
 abbrev Elsewhere : Option Answer → Type 0
@@ -79,7 +66,7 @@ module _ (w : Notes) (q : Request) where
   refuses : (m : Multiplexor) (c : AbortCode) → Fair w q (refused m c)
   refuses m c = record { agrees = refl; whole = λ x e. unset x _ e; turn = λ t e. cc }
 
-  answers : (t : Transfer) (a : Answer) → Agrees (after_request w q) t → Elsewhere (Some a) → Fair w q (answered t a)
+  answers : (t : Activity) (a : Answer) → Agrees (after_request w q) t → Elsewhere (Some a) → Fair w q (answered t a)
   answers t a h other = record { agrees = h; whole = λ x e. unset x _ e; turn = λ u e. absurd (other u e) }
 
   module _ (d : List Entry) (a : Answer) (turn : (t : Toggle) → Some a ≡ Some (answer.DownloadSegment t) → InTurn w t q) where
@@ -103,19 +90,19 @@ module _ (d : List Entry) where
     w = Segments z y v
 
     in_turn : same_toggle u y ≡ true → (last : Bool) (t : Toggle) → Some (answer.DownloadSegment u) ≡ Some (answer.DownloadSegment t) → InTurn w t (request.DownloadSegment u x last)
-    in_turn e last t h = let same : u ≡ y = alike u y e in record { bytes = x; last = last; segment = cc; awaited = cc }
+    in_turn e last t h = let same : u ≡ y = equal_toggles u y e in record { bytes = x; last = last; segment = cc; awaited = cc }
 
     taken : same_toggle u y ≡ true → (last : Bool)
         → Fair w (request.DownloadSegment u x last) (cond last (completed d z (v ++ x) (answer.DownloadSegment u)) (answered (Download z (other u) (v ++ x)) (answer.DownloadSegment u)))
     taken e true = ends_by w _ d (answer.DownloadSegment u) (in_turn e true) z (v ++ x) (λ size. record { whole = refl; last = refl; sized = size; checked = λ k h. cc })
     taken e false =
-        record { agrees = ap (λ (t : Toggle). Segments z (other t) (v ++ x)) (sym (alike u y e)); whole = λ i h. unset i _ h; turn = in_turn e false }
+        record { agrees = ap (λ (t : Toggle). Segments z (other t) (v ++ x)) (sym (equal_toggles u y e)); whole = λ i h. unset i _ h; turn = in_turn e false }
 
     toggled : (last : Bool) (b : Bool) → same_toggle u y ≡ b → Fair w (request.DownloadSegment u x last) (cond b (received d z u last (v ++ x)) (refused z.multiplexor ToggleNotAlternated))
     toggled last true e = chosen (Fair w (request.DownloadSegment u x last)) (ltb 1024 (length (v ++ x))) (refuses w _ _ _) (taken e last)
     toggled last false e = refuses w _ _ _
 
-  download_fair : (w : Notes) (t : Transfer) (u : Toggle) (x : List ℕ) (last : Bool) → Agrees w t → Fair w (request.DownloadSegment u x last) (download_segment d t u x last)
+  download_fair : (w : Notes) (t : Activity) (u : Toggle) (x : List ℕ) (last : Bool) → Agrees w t → Fair w (request.DownloadSegment u x last) (download_segment d t u x last)
   download_fair w Idle u x last h = refuses w _ _ _
   download_fair w (Download z y v) u x last h =
       subst (λ (k : Notes). Fair k (request.DownloadSegment u x last) (download_segment d (Download z y v) u x last)) (sym h) (toggled z y v u x last (same_toggle u y) refl)
@@ -123,7 +110,7 @@ module _ (d : List Entry) where
   download_fair w (BlockDownload r v) u x last h = refuses w _ _ _
   download_fair w (BlockEnd b v) u x last h = refuses w _ _ _
 
-  upload_fair : (w : Notes) (t : Transfer) (u : Toggle) → Fair w (request.UploadSegment u) (upload_segment t u)
+  upload_fair : (w : Notes) (t : Activity) (u : Toggle) → Fair w (request.UploadSegment u) (upload_segment t u)
   upload_fair w Idle u = refuses w _ _ _
   upload_fair w (Download z y v) u = refuses w _ _ _
   upload_fair w (Upload m y v) u =
@@ -145,7 +132,7 @@ module _ (d : List Entry) where
         ends_by (Whole b v) _ d answer.EndBlockDownload (λ t h. cc) b.download left
         (λ size. record { whole = refl; last = refl; sized = size; checked = as_given b.crc k left e })
 
-  end_fair : (w : Notes) (t : Transfer) (i k : ℕ) → Agrees w t → Fair w (request.EndBlockDownload i k) (block_end d t i k)
+  end_fair : (w : Notes) (t : Activity) (i k : ℕ) → Agrees w t → Fair w (request.EndBlockDownload i k) (block_end d t i k)
   end_fair w Idle i k h = refuses w _ _ _
   end_fair w (Download z y v) i k h = refuses w _ _ _
   end_fair w (Upload m y v) i k h = refuses w _ _ _
@@ -153,12 +140,12 @@ module _ (d : List Entry) where
   end_fair w (BlockEnd b v) i k h =
       subst (λ (y : Notes). Fair y (request.EndBlockDownload i k) (block_end d (BlockEnd b v) i k)) (sym h) (checked b v i k (crc_differs b.crc k (left b v i k)) refl)
 
-  abort_fair : (w : Notes) (t : Transfer) (q : Request) → Agrees w t → Fair w q (cond (is_idle t) (dropped t) ended)
+  abort_fair : (w : Notes) (t : Activity) (q : Request) → Agrees w t → Fair w q (cond (is_idle t) (dropped t) ended)
   abort_fair w t q h =
       chosen (Fair w q) (is_idle t) (record { agrees = h; whole = λ x e. unset x _ e; turn = λ u e. cc }) (record { agrees = refl; whole = λ x e. unset x _ e; turn = λ u e. cc })
 
   -- what a node does with a request
-  asked_fair : (n : ℕ) (w : Notes) (t : Transfer) (q : Request) → Agrees w t → Fair w q (asked d n t q)
+  asked_fair : (n : ℕ) (w : Notes) (t : Activity) (q : Request) → Agrees w t → Fair w q (asked d n t q)
   asked_fair n w t (request.InitiateDownload m (coming.Expedited v)) h =
       sets w _ d (answer.InitiateDownload m) (λ u e. cc) m v (record { whole = refl; last = refl; sized = λ k e. cc; checked = λ k e. cc })
   asked_fair n w t (request.InitiateDownload m (coming.Segmented size)) h = judged (Fair w _) (start_verdict d m size) m (refuses w _ m) (answers w _ _ _ refl (λ u e. cc))
@@ -228,7 +215,7 @@ abbrev Plain : Notes → List ℕ → Type 0
 Plain w bytes = (r : Served) (a : Option Answer) → notes_after w bytes r a ≡ after_known w r (request_in bytes)
 
 module _ (d : List Entry) (n : ℕ) (f : Frame) where
-  known : (w : Notes) (t : Transfer) (o : Option Request) → request_in f.bytes ≡ o → Plain w f.bytes → Agrees w t → Follows w f (understood d n t o)
+  known : (w : Notes) (t : Activity) (o : Option Request) → request_in f.bytes ≡ o → Plain w f.bytes → Agrees w t → Follows w f (understood d n t o)
   known w t None e plain h =
       record {
         agrees = plain Aborted (Some (answer.Abort (named t) UnknownCommand)) ∙ ap (after_known w Aborted) e;
@@ -249,18 +236,18 @@ module _ (d : List Entry) (n : ℕ) (f : Frame) where
       let fair = block_fair n r v some (block_request_in f.bytes) in
       record { agrees = fair.agrees; whole = λ x z. unset x _ (sym fair.unset ∙ z); turn = λ t z. absurd (fair.elsewhere t z) }
 
-  heard_fair : (w : Notes) (t : Transfer) → Agrees w t → Follows w f (heard d n t f.bytes)
-  heard_fair w Idle h = subst (λ (k : Notes). Follows k f (heard d n Idle f.bytes)) (sym h) (known Nothing Idle (request_in f.bytes) refl (λ r a. refl) refl)
-  heard_fair w (Download z u v) h =
+  interpreted_fair : (w : Notes) (t : Activity) → Agrees w t → Follows w f (interpreted d n t f.bytes)
+  interpreted_fair w Idle h = subst (λ (k : Notes). Follows k f (interpreted d n Idle f.bytes)) (sym h) (known Nothing Idle (request_in f.bytes) refl (λ r a. refl) refl)
+  interpreted_fair w (Download z u v) h =
       let t = Download z u v in
-      subst (λ (k : Notes). Follows k f (heard d n t f.bytes)) (sym h) (known (Segments z u v) t (request_in f.bytes) refl (λ r a. refl) refl)
-  heard_fair w (Upload m u v) h =
+      subst (λ (k : Notes). Follows k f (interpreted d n t f.bytes)) (sym h) (known (Segments z u v) t (request_in f.bytes) refl (λ r a. refl) refl)
+  interpreted_fair w (Upload m u v) h =
       let t = Upload m u v in
-      subst (λ (k : Notes). Follows k f (heard d n t f.bytes)) (sym h) (known Nothing t (request_in f.bytes) refl (λ r a. refl) refl)
-  heard_fair w (BlockDownload r v) h = subst (λ (k : Notes). Follows k f (heard d n (BlockDownload r v) f.bytes)) (sym h.1) (in_block r v h.0)
-  heard_fair w (BlockEnd b v) h =
+      subst (λ (k : Notes). Follows k f (interpreted d n t f.bytes)) (sym h) (known Nothing t (request_in f.bytes) refl (λ r a. refl) refl)
+  interpreted_fair w (BlockDownload r v) h = subst (λ (k : Notes). Follows k f (interpreted d n (BlockDownload r v) f.bytes)) (sym h.1) (in_block r v h.0)
+  interpreted_fair w (BlockEnd b v) h =
       let t = BlockEnd b v in
-      subst (λ (k : Notes). Follows k f (heard d n t f.bytes)) (sym h) (known (Whole b v) t (request_in f.bytes) refl (λ r a. refl) refl)
+      subst (λ (k : Notes). Follows k f (interpreted d n t f.bytes)) (sym h) (known (Whole b v) t (request_in f.bytes) refl (λ r a. refl) refl)
 
 -- a foreign frame changes no notes
 known_dropped : (w : Notes) (o : Option Request) → after_known w Dropped o ≡ w
@@ -277,28 +264,28 @@ same-notes (Segments z t v) bytes = known_dropped (Segments z t v) (request_in b
 same-notes (Block b s v) bytes = block_dropped b s v (block_request_in bytes)
 same-notes (Whole b v) bytes = known_dropped (Whole b v) (request_in bytes)
 
-foreign_fair : (w : Notes) (t : Transfer) (f : Frame) → Agrees w t → Follows w f (dropped t)
+foreign_fair : (w : Notes) (t : Activity) (f : Frame) → Agrees w t → Follows w f (dropped t)
 foreign_fair w t f h = record { agrees = subst (λ (k : Notes). Agrees k t) (sym (same-notes w f.bytes)) h; whole = λ x z. unset x _ z; turn = λ u z. cc }
 
-step_fair : (d : List Entry) (s : State) (w : Notes) (f : Frame) → Agrees w s.transfer → Follows w f (step d s (Some f))
+step_fair : (d : List Entry) (s : State) (w : Notes) (f : Frame) → Agrees w s.activity → Follows w f (step d s (Some f))
 unfolding step
 step_fair d s w f h =
     chosen (Follows w f) (eqb f.identifier.number (request_identifier s.number).number)
-    (heard_fair d s.block_size.number f w s.transfer h) (foreign_fair w s.transfer f h)
+    (interpreted_fair d s.block_size.number f w s.activity h) (foreign_fair w s.activity f h)
 
 -- a tick leaves the notes, or ends the transfer
-ticked : (x y : Bool) (s : State) (w : Notes) → Agrees w s.transfer → (let t = cond x (record { next = s; reply = None }) (cond y (timed_out s) (waited s)) in Agrees (notes_by t.reply w) t.next.transfer)
+ticked : (x y : Bool) (s : State) (w : Notes) → Agrees w s.activity → (let t = cond x (record { next = s; reply = None }) (cond y (timed_out s) (waited s)) in Agrees (notes_by t.reply w) t.next.activity)
 ticked true y s w h = h
 ticked false true s w h = refl
 ticked false false s w h = h
 
-tick_fair : (s : State) (w : Notes) → Agrees w s.transfer → Agrees (notes_by (tick s).reply w) (tick s).next.transfer
+tick_fair : (s : State) (w : Notes) → Agrees w s.activity → Agrees (notes_by (tick s).reply w) (tick s).next.activity
 unfolding tick
 tick_fair s w h = ticked _ _ s w h
 
 -- through a whole run
 abbrev Good : Scene → Type 0
-Good x = Agrees x.notes x.node.transfer
+Good x = Agrees x.notes x.node.activity
 
 event_good : (e : Event) (x : Scene) → Good x → Good (happened e x)
 event_good (Serve None) x h = h
@@ -309,7 +296,7 @@ run_good : (es : List Event) (x : Scene) → Good x → Good (run es x)
 run_good [] x h = h
 run_good (e ∷ es) x h = run_good es (happened e x) (event_good e x h)
 
-starts : (t : Transfer) → is_idle t ≡ true → Agrees Nothing t
+starts : (t : Activity) → is_idle t ≡ true → Agrees Nothing t
 starts Idle e = refl
 starts (Download z u v) e = cc
 starts (Upload m u v) e = refl
@@ -317,11 +304,11 @@ starts (BlockDownload r v) e = cc
 starts (BlockEnd b v) e = cc
 
 -- what follows of the next frame in every run from an idle node
-module _ (d : List Entry) (s : State) (idle : is_idle s.transfer ≡ true) (es : List Event) (f : Frame) where
+module _ (d : List Entry) (s : State) (idle : is_idle s.activity ≡ true) (es : List Event) (f : Frame) where
   next_fair : Follows (past d s es).notes f (step_after d s es f)
   next_fair =
       let x = past d s es in
-      step_fair x.dictionary x.node x.notes f (run_good es (record { dictionary = d; node = s; notes = Nothing }) (starts s.transfer idle))
+      step_fair x.dictionary x.node x.notes f (run_good es (record { dictionary = d; node = s; notes = Nothing }) (starts s.activity idle))
 
 pub values_carried : ValuesCarried
 values_carried d s idle es f x h = (next_fair d s idle es f).whole x h

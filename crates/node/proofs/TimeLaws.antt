@@ -18,16 +18,16 @@ abbrev at_time : ℕ → State → State
 at_time n s = record s { ticks = n }
 
 -- a tick of a busy node before the 25th, and the 25th
-early : (s : State) → is_idle s.transfer ≡ false → s.ticks < 24 → tick s ≡ waited s
+early : (s : State) → is_idle s.activity ≡ false → s.ticks < 24 → tick s ≡ waited s
 unfolding tick
 early s busy h = rw busy (cond-false _ _ _ (lt-leb _ (s.ticks + 1) (omega arith)))
 
-late : (s : State) → is_idle s.transfer ≡ false → s.ticks ≡ 24 → tick s ≡ timed_out s
+late : (s : State) → is_idle s.activity ≡ false → s.ticks ≡ 24 → tick s ≡ timed_out s
 unfolding tick
 late s busy h = rw busy (cond-true _ _ _ (le-leb _ (s.ticks + 1) (omega arith)))
 
 -- ticks add up
-add_up : (n : ℕ) (s : State) → is_idle s.transfer ≡ false → s.ticks + n ≤ 24 → passed n s ≡ at_time (s.ticks + n) s
+add_up : (n : ℕ) (s : State) → is_idle s.activity ≡ false → s.ticks + n ≤ 24 → passed n s ≡ at_time (s.ticks + n) s
 add_up zero s busy h = ap (λ (k : ℕ). at_time k s) (sym (add-zero s.ticks))
 add_up (suc n) s busy h =
     let k : s.ticks + n < 24 = omega arith in
@@ -40,7 +40,7 @@ time_runs_out s busy start =
     let last : tick (passed 24 s) ≡ timed_out (at_time (s.ticks + 24) s) = ap tick full ∙ late (at_time (s.ticks + 24) s) busy (omega arith) in
     record {
       silent = λ n h. ap (λ (x : State). (tick x).reply) (add_up n s busy (omega arith)) ∙ ap (λ (x : Tick). x.reply) (early (at_time (s.ticks + n) s) busy (omega arith));
-      busy = λ n h. ap (λ (x : State). x.transfer) (add_up n s busy (omega arith));
+      busy = λ n h. ap (λ (x : State). x.activity) (add_up n s busy (omega arith));
       abort = ap (λ (x : Tick). x.reply) last;
-      over = ap (λ (x : Tick). x.next.transfer) last;
+      over = ap (λ (x : Tick). x.next.activity) last;
     }

@@ -5,20 +5,26 @@ use Rattle.wire.specs.declared.multiplexor.Multiplexor.{Multiplexor}
 use Rattle.wire.specs.declared.abort_code.AbortCode.{AbortCode}
 use Rattle.wire.specs.declared.frame.Frame.{Frame}
 use Rattle.sdo.specs.declared.toggle.Toggle.{Toggle}
+use Rattle.sdo.specs.Answers.{Answer}
 use Rattle.sdo.specs.Answers as answer
 use Rattle.sdo.specs.Requests.{request_in}
-use Rattle.wire.specs.FrameData.{fits_expedited, expedited_of}
+use Rattle.sdo.specs.FrameData.{fits_expedited, expedited_of}
 use Rattle.sdo.specs.Segments.{other}
-use Rattle.wire.specs.Transfers as coming
+use Rattle.sdo.specs.Transfers as coming
 use Rattle.dictionary.specs.Entries.{Entry}
-use Rattle.dictionary.specs.Commits.{decided}
+use Rattle.dictionary.specs.Commits.{decided, set_unless}
+use Rattle.dictionary.specs.Verdicts.{write_verdict}
 use Rattle.node.specs.declared.reception.Reception.{Reception}
 use Rattle.node.specs.declared.reaction.Reaction.{Reaction}
-use Rattle.node.specs.declared.transfer.Transfer as declared
+use Rattle.node.specs.declared.activity.Activity as declared
 use Rattle.node.specs.States.{State, Idle, Upload}
-use Rattle.node.specs.Steps.{Step, answered, announced, given, next_segment, understood, heard, taken, step}
+use Rattle.node.specs.Steps.{Step, commit, committed, unless, answered, announced, given, next_segment, understood, interpreted, taken, step}
 use Rattle.node.specs.declared.node.Node.{Node}
-use Rattle.node.specs.Nodes.{Turns, Does, Serves, reaction, stepped, dictionary_by, shown, shown_transfer}
+use Rattle.node.specs.Nodes.{Turns, Goes, Does, Serves, reaction, stepped, dictionary_by, shown, shown_activity}
+
+set_by : (w : Option AbortCode) (m : Multiplexor) (v : List ℕ) (a : Answer) (d : List Entry) → set_unless w m v d ≡ dictionary_by (unless w m (committed m v a)).set d
+set_by None m v a d = refl
+set_by (Some c) m v a d = refl
 
 module _ {s t : Node} {r : Reaction} where
   -- the same step in other words
@@ -33,6 +39,14 @@ module _ {s t : Node} {r : Reaction} where
           node = h.node ∙ ap (λ (x : Step). stepped x (shown s)) same;
           dictionary = h.dictionary ∙ ap (λ (x : Step). dictionary_by x.set (meaning d)) same;
         }
+
+    -- a value that is to be set, and what the dictionary made of it
+    pub committing : {d e : D} (m : Multiplexor) (v : List ℕ) (a : Answer)
+        → Goes (unless (write_verdict (meaning d) m v) m (committed m v a)) s t r
+        → meaning e ≡ set_unless (write_verdict (meaning d) m v) m v (meaning d)
+        → Does meaning (λ x. commit x m v a) s t d e r
+    committing {d = d} m v a h after =
+        record { answer = h.answer; node = h.node; dictionary = after ∙ set_by (write_verdict (meaning d) m v) m v a (meaning d) }
 
     -- a frame that waited
     pub serving : {d e : D} (o : Option Frame) (f : Frame) → o ≡ Some f → Does meaning (λ x. taken x (shown s) f) s t d e r → Serves meaning o s t d e r
@@ -61,11 +75,11 @@ module _ (m : Multiplexor) (t : Toggle) (v : List ℕ) where
   more_given h = rw (lt-leb (length v) 7 h)
 
 -- a frame with the node's identifier
-pub addressed : (d : List Entry) (s : State) (f : Frame) → f.identifier.number ≡ 0x600 + s.number.number → heard d s.block_size.number s.transfer f.bytes ≡ taken d s f
+pub addressed : (d : List Entry) (s : State) (f : Frame) → f.identifier.number ≡ 0x600 + s.number.number → interpreted d s.block_size.number s.activity f.bytes ≡ taken d s f
 addressed d s f own = rw (eq-eqb f.identifier.number (0x600 + s.number.number) own)
 
 -- bytes that are taken while no block segments come in
-pub elsewhere : (d : List Entry) (n : ℕ) (t : declared.Transfer) (v bytes : List ℕ) → ((r : Reception) → t ≡ declared.TheVariants.BlockDownload r → ⊥) → understood d n (shown_transfer t v) (request_in bytes) ≡ heard d n (shown_transfer t v) bytes
+pub elsewhere : (d : List Entry) (n : ℕ) (t : declared.Activity) (v bytes : List ℕ) → ((r : Reception) → t ≡ declared.TheVariants.BlockDownload r → ⊥) → understood d n (shown_activity t v) (request_in bytes) ≡ interpreted d n (shown_activity t v) bytes
 elsewhere d n declared.TheVariants.Idle v bytes h = refl
 elsewhere d n (declared.TheVariants.Download w u) v bytes h = refl
 elsewhere d n (declared.TheVariants.Upload r) v bytes h = refl

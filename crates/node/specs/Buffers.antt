@@ -1,9 +1,5 @@
 -- What a node's buffer holds: the bytes of the transfer that it is in.
 use Rattle.std.specs.Prelude.{◌≡◌, ℕ, ◌+◌, ◌≤◌, Bool, List, length, take, nat_lt}
-use Rattle.wire.specs.declared.abort_code.AbortCode.{AbortCode}
-use Rattle.wire.specs.declared.abort_code.AbortCode.TheVariants.{OutOfMemory}
-use Rattle.dictionary.specs.declared.refusal.CopyRefusal.{CopyRefusal}
-use Rattle.dictionary.specs.declared.refusal.CopyRefusal.TheVariants.{Verdict, ShortBuffer}
 use Rattle.node.specs.declared.buffer.Buffer.TheInside.{Inside}
 
 -- the bytes in use
@@ -18,8 +14,3 @@ pub record Sound (b : Inside) : Type 0 where
 -- no further segment of seven bytes has room behind some bytes: 147 are there
 abbrev pub full : List ℕ → Bool
 full v = nat_lt 1029 (length v + 7)
-
--- the code of a copy that was refused
-abbrev pub code_of : CopyRefusal → AbortCode
-code_of (Verdict c) = c
-code_of ShortBuffer = OutOfMemory

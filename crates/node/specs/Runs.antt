@@ -1,5 +1,5 @@
 -- Whole runs of a node: what was served and which ticks passed, one after the other.
--- Beside the node there is one who only hears what is sent to it and what it answers, and writes down what a start said and the data of the
+-- Beside the node there is one who only sees what is sent to it and what it answers, and writes down what a start said and the data of the
 -- segments that were taken.
 use Rattle.std.specs.Prelude.{◌≡◌, ℕ, ◌+◌, ◌-◌, ◌≤◌, Bool, true, false, cond, List, [], ◌∷◌, ◌++◌, length, take, Some, None, Option, ◌==◌}
 use Rattle.wire.specs.declared.frame.Frame.{Frame}
@@ -15,9 +15,9 @@ use Rattle.sdo.specs.Answers.{Answer}
 use Rattle.sdo.specs.Answers as answer
 use Rattle.sdo.specs.BlockRequests.{BlockRequest, block_request_in}
 use Rattle.sdo.specs.BlockRequests as block
-use Rattle.sdo.specs.Requests.{Request, request_in}
+use Rattle.sdo.specs.Requests.{Request, request_in, completes}
 use Rattle.sdo.specs.Requests as request
-use Rattle.wire.specs.Transfers as coming
+use Rattle.sdo.specs.Transfers as coming
 use Rattle.dictionary.specs.Entries.{Entry}
 use Rattle.node.specs.declared.block_start.BlockStart.{BlockStart}
 use Rattle.node.specs.declared.download_start.DownloadStart.{DownloadStart}
@@ -64,13 +64,13 @@ extended (Block b s v) x = Block b s v
 extended (Whole b v) x = Whole b v
 
 -- the notes by what serve told: others where the frame was answered or kept, none where the transfer is over, else the same
-abbrev pub told : Served → Notes → Notes → Notes → Notes
-told NothingWaited answered kept same = same
-told Committed answered kept same = Nothing
-told Aborted answered kept same = Nothing
-told Answered answered kept same = answered
-told Dropped answered kept same = same
-told Kept answered kept same = kept
+abbrev pub noted_by : Served → Notes → Notes → Notes → Notes
+noted_by NothingWaited answered kept same = same
+noted_by Committed answered kept same = Nothing
+noted_by Aborted answered kept same = Nothing
+noted_by Answered answered kept same = answered
+noted_by Dropped answered kept same = same
+noted_by Kept answered kept same = kept
 
 -- a request that was answered: a start of a write begins new notes, a segment of one adds its data
 abbrev pub after_request : Notes → Request → Notes
@@ -84,8 +84,8 @@ after_request w (request.EndBlockDownload unused k) = w
 after_request w (request.Abort m c) = w
 
 abbrev pub after_known : Notes → Served → Option Request → Notes
-after_known w r None = told r w w w
-after_known w r (Some q) = told r (after_request w q) w w
+after_known w r None = noted_by r w w w
+after_known w r (Some q) = noted_by r (after_request w q) w w
 
 -- an acknowledgement of the awaited number tells that the segment was kept, another that it was not; behind the last segment the notes are whole
 abbrev pub acknowledged : BlockStart → ℕ → List ℕ → Bool → List ℕ → Option Answer → Notes
@@ -101,8 +101,8 @@ acknowledged b s v last x (Some (answer.Abort n c)) = Block b s v
 
 -- a message in block reception: a segment that is kept adds its seven bytes
 abbrev pub after_block : BlockStart → ℕ → List ℕ → Served → Option Answer → BlockRequest → Notes
-after_block b s v r a (block.Segment last k x) = told r (acknowledged b s v last x a) (Block b (s + 1) (v ++ x)) (Block b s v)
-after_block b s v r a (block.Abort n c) = told r (Block b s v) (Block b s v) (Block b s v)
+after_block b s v r a (block.Segment last k x) = noted_by r (acknowledged b s v last x a) (Block b (s + 1) (v ++ x)) (Block b s v)
+after_block b s v r a (block.Abort n c) = noted_by r (Block b s v) (Block b s v) (Block b s v)
 
 -- the notes after a frame with some bytes, by what serve told and what was answered
 abbrev pub notes_after : Notes → List ℕ → Served → Option Answer → Notes
@@ -128,12 +128,12 @@ pub data Event : Type 0 where
 
 abbrev pub happened : Event → Scene → Scene
 happened (Serve None) x = x
-happened (Serve (Some f)) x = record {
+happened (Serve (Some f)) x = record x {
   dictionary = dictionary_after x.dictionary x.node (Some f);
   node = node_after x.dictionary x.node (Some f);
   notes = notes_after x.notes f.bytes (step x.dictionary x.node (Some f)).served (step x.dictionary x.node (Some f)).reply;
 }
-happened Tick x = record { dictionary = x.dictionary; node = (tick x.node).next; notes = notes_by (tick x.node).reply x.notes }
+happened Tick x = record x { node = (tick x.node).next; notes = notes_by (tick x.node).reply x.notes }
 
 -- one event after the other
 abbrev pub run : List Event → Scene → Scene
@@ -146,7 +146,7 @@ asks_start None = false
 asks_start (Some q) = is_start q
 
 abbrev pub frame_starts : State → Frame → Bool
-frame_starts s f = cond (f.identifier.number == (request_identifier s.number).number) (cond (in_block s.transfer) false (asks_start (request_in f.bytes))) false
+frame_starts s f = cond (f.identifier.number == (request_identifier s.number).number) (cond (in_block s.activity) false (asks_start (request_in f.bytes))) false
 
 abbrev pub starts : State → Event → Bool
 starts s (Serve None) = false
@@ -190,21 +190,10 @@ carried w (request.InitiateBlockDownload m c size) = to m []
 carried w (request.EndBlockDownload unused k) = to (noted_start w).multiplexor (take (length (noted w) - unused) (noted w))
 carried w (request.Abort m c) = to (noted_start w).multiplexor []
 
--- such a request: an expedited start, a segment that is marked as the last, or a block's end
-abbrev pub completes : Request → Bool
-completes (request.InitiateDownload m (coming.Expedited v)) = true
-completes (request.InitiateDownload m (coming.Segmented size)) = false
-completes (request.DownloadSegment u x last) = last
-completes (request.InitiateUpload m) = false
-completes (request.UploadSegment u) = false
-completes (request.InitiateBlockDownload m c size) = false
-completes (request.EndBlockDownload unused k) = true
-completes (request.Abort m c) = false
-
 -- the size that the start of the write announced, where the value comes behind it
-abbrev pub announced : Notes → Request → Option ℕ
-announced w (request.InitiateDownload m how) = None
-announced w q = (noted_start w).size
+abbrev pub announced_size : Notes → Request → Option ℕ
+announced_size w (request.InitiateDownload m how) = None
+announced_size w q = (noted_start w).size
 
 -- the CRC that a block's end gives, where the start offered one
 abbrev pub offered : CrcOffer → ℕ → Option ℕ
@@ -225,7 +214,7 @@ given_crc w q = None
 pub record Completes (w : Notes) (q : Request) (x : Setting) : Type 0 where
   pub whole : x ≡ carried w q
   pub last : completes q ≡ true
-  pub sized : (n : ℕ) → announced w q ≡ Some n → length x.value ≡ n
+  pub sized : (n : ℕ) → announced_size w q ≡ Some n → length x.value ≡ n
   pub checked : (k : ℕ) → given_crc w q ≡ Some k → crc x.value ≡ k
 
 -- a frame asks for something
@@ -252,11 +241,11 @@ step_after d s es f = step (past d s es).dictionary (past d s es).node (Some f)
 -- and is set where that start said; it has the size that was announced, and the CRC that was given
 abbrev pub ValuesCarried : Type 0
 ValuesCarried =
-    (d : List Entry) (s : State) → is_idle s.transfer ≡ true → (es : List Event) (f : Frame) (x : Setting)
+    (d : List Entry) (s : State) → is_idle s.activity ≡ true → (es : List Event) (f : Frame) (x : Setting)
     → (step_after d s es f).set ≡ Some x → Says (λ q. Completes (past d s es).notes q x) f
 
 -- and the segments of a write are answered in turn: with toggle 0 the first, and then with the other toggle each time
 abbrev pub TogglesAlternate : Type 0
 TogglesAlternate =
-    (d : List Entry) (s : State) → is_idle s.transfer ≡ true → (es : List Event) (f : Frame) (t : Toggle)
+    (d : List Entry) (s : State) → is_idle s.activity ≡ true → (es : List Event) (f : Frame) (t : Toggle)
     → (step_after d s es f).reply ≡ Some (answer.DownloadSegment t) → Says (InTurn (past d s es).notes t) f

@@ -11,8 +11,8 @@ use Rattle.sdo.specs.declared.crc_offer.CrcOffer.TheVariants.{Offered, NotOffere
 use Rattle.sdo.specs.declared.toggle.Toggle.{Toggle}
 use Rattle.sdo.specs.declared.toggle.Toggle.TheVariants.{Zero}
 use Rattle.sdo.specs.Segments.{differs, other, same_toggle}
-use Rattle.wire.specs.FrameData.{fits_expedited}
-use Rattle.wire.specs.Transfers as coming
+use Rattle.sdo.specs.FrameData.{fits_expedited}
+use Rattle.sdo.specs.Transfers as coming
 use Rattle.sdo.specs.Requests.{Request, request_in}
 use Rattle.sdo.specs.Requests as request
 use Rattle.sdo.specs.BlockRequests.{BlockRequest, block_request_in}
@@ -28,7 +28,7 @@ use Rattle.node.specs.declared.reception.Reception.{Reception}
 use Rattle.node.specs.declared.served.Served.{Served}
 use Rattle.node.specs.declared.served.Served.TheVariants.{NothingWaited, Committed, Aborted, Answered, Dropped, Kept}
 use Rattle.node.specs.Buffers.{full}
-use Rattle.node.specs.States.{State, Transfer, Idle, Download, Upload, BlockDownload, BlockEnd, next_sub_block, is_idle, named}
+use Rattle.node.specs.States.{State, Activity, Idle, Download, Upload, BlockDownload, BlockEnd, next_sub_block, is_idle, named}
 
 -- a value that is set at a multiplexor
 pub record Setting : Type 0 where
@@ -37,7 +37,7 @@ pub record Setting : Type 0 where
 
 -- what comes of a frame: the transfer afterwards, what serve tells, the node's own message, and the value that is set
 pub record Step : Type 0 where
-  pub next : Transfer
+  pub next : Activity
   pub served : Served
   pub reply : Option Answer
   pub set : Option Setting
@@ -47,27 +47,27 @@ abbrev pub committed : Multiplexor → List ℕ → Answer → Step
 committed m v a = record { next = Idle; served = Committed; reply = Some a; set = Some (record { multiplexor = m; value = v }) }
 
 -- nothing is set
-abbrev pub turned : Transfer → Served → Option Answer → Step
+abbrev pub turned : Activity → Served → Option Answer → Step
 turned t r a = record { next = t; served = r; reply = a; set = None }
 
 -- an abort is sent: the node is idle
 abbrev pub refused : Multiplexor → AbortCode → Step
 refused m c = turned Idle Aborted (Some (answer.Abort m c))
 
--- an abort was heard: the node is idle and says nothing
+-- an abort came: the node is idle and says nothing
 abbrev pub ended : Step
 ended = turned Idle Aborted None
 
-abbrev pub answered : Transfer → Answer → Step
+abbrev pub answered : Activity → Answer → Step
 answered t a = turned t Answered (Some a)
 
-abbrev pub dropped : Transfer → Step
+abbrev pub dropped : Activity → Step
 dropped t = turned t Dropped None
 
-abbrev pub kept : Transfer → Step
+abbrev pub kept : Activity → Step
 kept t = turned t Kept None
 
-abbrev pub nothing : Transfer → Step
+abbrev pub nothing : Activity → Step
 nothing t = turned t NothingWaited None
 
 -- a step, unless a verdict speaks against it
@@ -80,7 +80,7 @@ abbrev pub commit : List Entry → Multiplexor → List ℕ → Answer → Step
 commit d m v a = unless (write_verdict d m v) m (committed m v a)
 
 -- a message that is not awaited
-abbrev pub unexpected : Transfer → Step
+abbrev pub unexpected : Activity → Step
 unexpected t = refused (named t) UnknownCommand
 
 -- the start of a write: a value that comes at once is committed, for a longer one its segments are awaited
@@ -118,7 +118,7 @@ received d w t last v =
     (answered (Download w (other t) v) (answer.DownloadSegment t)))
 
 -- its toggle comes first
-abbrev pub download_segment : List Entry → Transfer → Toggle → List ℕ → Bool → Step
+abbrev pub download_segment : List Entry → Activity → Toggle → List ℕ → Bool → Step
 download_segment d Idle t x last = unexpected Idle
 download_segment d (Download w u v) t x last = cond (same_toggle t u) (received d w t last (v ++ x)) (refused w.multiplexor ToggleNotAlternated)
 download_segment d (Upload m u v) t x last = unexpected (Upload m u v)
@@ -132,7 +132,7 @@ next_segment m t v =
     (answered Idle (answer.UploadSegment t v true))
     (answered (Upload m (other t) (drop 7 v)) (answer.UploadSegment t (take 7 v) false))
 
-abbrev pub upload_segment : Transfer → Toggle → Step
+abbrev pub upload_segment : Activity → Toggle → Step
 upload_segment Idle t = unexpected Idle
 upload_segment (Download w u v) t = unexpected (Download w u v)
 upload_segment (Upload m u v) t = cond (same_toggle t u) (next_segment m t v) (refused m ToggleNotAlternated)
@@ -149,7 +149,7 @@ abbrev pub closed : List Entry → BlockStart → ℕ → List ℕ → Step
 closed d b k v = cond (crc_differs b.crc k v) (refused b.download.multiplexor CrcError) (completed d b.download v answer.EndBlockDownload)
 
 -- the bytes of its segments without those that the last one does not use
-abbrev pub block_end : List Entry → Transfer → ℕ → ℕ → Step
+abbrev pub block_end : List Entry → Activity → ℕ → ℕ → Step
 block_end d Idle n k = unexpected Idle
 block_end d (Download w u v) n k = unexpected (Download w u v)
 block_end d (Upload m u v) n k = unexpected (Upload m u v)
@@ -157,11 +157,11 @@ block_end d (BlockDownload r v) n k = unexpected (BlockDownload r v)
 block_end d (BlockEnd b v) n k = closed d b k (take (length v - n) v)
 
 -- an abort ends a transfer without an answer; without one it is dropped
-abbrev pub aborted : Transfer → Step
+abbrev pub aborted : Activity → Step
 aborted t = cond (is_idle t) (dropped t) ended
 
 -- a request in any state but while block segments come in: a start replaces a transfer
-abbrev pub asked : List Entry → ℕ → Transfer → Request → Step
+abbrev pub asked : List Entry → ℕ → Activity → Request → Step
 asked d n t (request.InitiateDownload m how) = start_download d m how
 asked d n t (request.DownloadSegment u w last) = download_segment d t u w last
 asked d n t (request.InitiateUpload m) = start_upload d m
@@ -171,7 +171,7 @@ asked d n t (request.EndBlockDownload unused k) = block_end d t unused k
 asked d n t (request.Abort m c) = aborted t
 
 -- bytes in which there is a request, or none that is known
-abbrev pub understood : List Entry → ℕ → Transfer → Option Request → Step
+abbrev pub understood : List Entry → ℕ → Activity → Option Request → Step
 understood d n t None = unexpected t
 understood d n t (Some q) = asked d n t q
 
@@ -213,21 +213,21 @@ module _ (n : ℕ) where
     asked_in_block v (block.Abort m c) = ended
 
 -- a frame's bytes: one reader while block segments come in, another elsewhere
-abbrev pub heard : List Entry → ℕ → Transfer → List ℕ → Step
-heard d n Idle bytes = understood d n Idle (request_in bytes)
-heard d n (Download w u v) bytes = understood d n (Download w u v) (request_in bytes)
-heard d n (Upload m u v) bytes = understood d n (Upload m u v) (request_in bytes)
-heard d n (BlockDownload r v) bytes = asked_in_block n r v (block_request_in bytes)
-heard d n (BlockEnd b v) bytes = understood d n (BlockEnd b v) (request_in bytes)
+abbrev pub interpreted : List Entry → ℕ → Activity → List ℕ → Step
+interpreted d n Idle bytes = understood d n Idle (request_in bytes)
+interpreted d n (Download w u v) bytes = understood d n (Download w u v) (request_in bytes)
+interpreted d n (Upload m u v) bytes = understood d n (Upload m u v) (request_in bytes)
+interpreted d n (BlockDownload r v) bytes = asked_in_block n r v (block_request_in bytes)
+interpreted d n (BlockEnd b v) bytes = understood d n (BlockEnd b v) (request_in bytes)
 
 -- a frame with another identifier than the node's is dropped
 abbrev pub taken : List Entry → State → Frame → Step
 taken d s f =
     cond (f.identifier.number == (request_identifier s.number).number)
-    (heard d s.block_size.number s.transfer f.bytes)
-    (dropped s.transfer)
+    (interpreted d s.block_size.number s.activity f.bytes)
+    (dropped s.activity)
 
 -- what comes of a frame, or of none where none waited
 unfoldable pub step : List Entry → State → Option Frame → Step
-step d s None = nothing s.transfer
+step d s None = nothing s.activity
 step d s (Some f) = taken d s f

@@ -7,8 +7,6 @@ mod methods;
 const ROOM: usize = 1029;
 
 /// Up to 1,029 bytes, which contracts see as the list of those that are held.
-// An array with a length beside it, and no ArrayVec: a read fills the front of the whole array, which an ArrayVec would first have
-// to be filled up for.
 #[derive(Drop)]
 pub struct Buffer {
     bytes: [u8; ROOM],

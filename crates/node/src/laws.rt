@@ -1,5 +1,5 @@
 //! What follows for every node from what its steps and ticks are defined to be.
-ghost use Rattle.node.specs.Laws.{CommitsTold, OthersLeave, TicksLeave, AbortsLeaveIdle, ForeignDropped, StartsReplace, AbortsHeard, OthersRefused, UnknownRefused, BlockAborted, BlockStays};
+ghost use Rattle.node.specs.Laws.{CommitsTold, OthersLeave, TicksLeave, AbortsLeaveIdle, ForeignDropped, StartsReplace, AbortsEnd, OthersRefused, UnknownRefused, BlockAborted, BlockStays};
 ghost use Rattle.node.specs.Laws.{FramesRestart, NoneChangesNothing, TimeRunsOut};
 ghost use Rattle.node.specs.Runs.{OneAtMost, ValuesCarried, TogglesAlternate};
 
@@ -18,7 +18,7 @@ pub fn answer_laws()
     ensures aborts_leave_idle { AbortsLeaveIdle }
     ensures foreign_dropped { ForeignDropped }
     ensures starts_replace { StartsReplace }
-    ensures aborts_heard { AbortsHeard }
+    ensures aborts_end { AbortsEnd }
     ensures others_refused { OthersRefused }
     ensures unknown_refused { UnknownRefused }
     ensures block_aborted { BlockAborted }

@@ -1,6 +1,7 @@
 //! The node: the SDO server of CiA 301, which sets and reads the values of its dictionary as a master asks.
 #![tactic(auto)]
 
+mod activity;
 mod block_segment;
 mod block_start;
 mod buffer;
@@ -11,7 +12,6 @@ mod node;
 mod reaction;
 mod reception;
 mod served;
-mod transfer;
 
 pub use laws::{answer_laws, commit_laws, time_laws};
 pub use node::Node;

@@ -3,8 +3,8 @@ ghost use Rattle.std.specs.Prelude.{◌≡◌};
 ghost use Rattle.node.specs.Nodes.{fresh, shown};
 ghost use Rattle.node.specs.States.{is_idle};
 
+use crate::activity::Activity;
 use crate::buffer::Buffer;
-use crate::transfer::Transfer;
 use sdo::BlockSize;
 use wire::NodeNumber;
 
@@ -16,12 +16,11 @@ mod turns;
 mod writing;
 
 /// A node by its number and the size of its sub-blocks, what it is doing, the ticks since it took a frame, and how many values it has set, modulo 65,536.
-// It has no model: that would be the state alone, and the steps' contracts also speak of what the buffer holds outside a transfer.
 #[derive(Drop)]
 pub struct Node {
     number: NodeNumber,
     block_size: BlockSize,
-    transfer: Transfer,
+    activity: Activity,
     buffer: Buffer,
     ticks: u8,
     commits: u16,
@@ -35,7 +34,7 @@ impl Node {
         Node {
             number,
             block_size,
-            transfer: Transfer::Idle,
+            activity: Activity::Idle,
             buffer: Buffer::new(),
             ticks: 0,
             commits: 0,
@@ -58,8 +57,8 @@ impl Node {
 
     /// Whether the node is in no transfer.
     pub fn is_idle(&self) -> bool
-        ensures { result ≡ is_idle (shown self.now).transfer }
+        ensures { result ≡ is_idle (shown self.now).activity }
     {
-        matches!(self.transfer, Transfer::Idle)
+        matches!(self.activity, Activity::Idle)
     }
 }

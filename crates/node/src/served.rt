@@ -7,7 +7,7 @@ pub enum Served {
     NothingWaited,
     /// A value was set in the dictionary.
     Committed,
-    /// An abort was sent, or one was heard that ended a transfer.
+    /// An abort was sent, or one came that ended a transfer.
     Aborted,
     /// Another answer was sent.
     Answered,

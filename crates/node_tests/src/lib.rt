@@ -2,12 +2,12 @@
 #![tactic(auto)]
 
 #[cfg(test)]
-mod block_tests;
+mod case_tests;
 #[cfg(test)]
-mod segment_tests;
+mod cases;
+#[cfg(test)]
+mod node_tests;
 #[cfg(test)]
 mod setup;
-#[cfg(test)]
-mod start_tests;
 #[cfg(test)]
 mod time_tests;

@@ -2,13 +2,20 @@
 use dictionary::{Table, sample};
 use node::{Node, Reaction, Served};
 use sdo::BlockSize;
-use std::process::Abort;
 use std::test::Fail;
 use wire::{Frame, Identifier, NodeNumber};
 
-/// A frame to the node, what serving it tells, and the bytes of the answer.
+/// A frame to the node, what serving it tells, and the answer; frames by their eight bytes, the first one foremost.
 #[derive(Clone, Copy)]
-pub(crate) struct Turn(pub [u8; 8], pub Served, pub Option<[u8; 8]>);
+pub(crate) struct Turn(pub u64, pub Served, pub Option<u64>);
+
+/// What a node has behind it: the size of its sub-blocks, some turns, and then others some times over.
+pub(crate) struct State {
+    pub block_size: u8,
+    pub start: &'static [Turn],
+    pub times: usize,
+    pub filling: &'static [Turn],
+}
 
 /// The node and its dictionary.
 #[derive(Drop)]
@@ -26,70 +33,48 @@ impl Setup {
         }
     }
 
+    /// A node that is in a state.
+    pub(crate) fn in_state(state: &State) -> Result<Setup, Fail> {
+        let mut setup = Setup::new(state.block_size);
+        let mut reached = setup.goes(state.start)?;
+        for _ in 0..state.times {
+            reached &= setup.goes(state.filling)?;
+        }
+        if reached {
+            Ok(setup)
+        } else {
+            Err(Fail::new("the state is not reached"))
+        }
+    }
+
     /// What the node makes of a frame with an identifier.
-    pub(crate) fn serve(&mut self, identifier: u16, bytes: [u8; 8]) -> Result<Reaction, Fail> {
+    pub(crate) fn serve(&mut self, identifier: u16, bytes: u64) -> Result<Reaction, Fail> {
         let identifier = Identifier::new(identifier).ok_or_else(|| Fail::new("more than 11 bits"))?;
         Ok(
-            self.node
-                .serve(&mut self.table, Some(Frame { identifier, bytes })),
+            self.node.serve(
+                &mut self.table,
+                Some(Frame {
+                    identifier,
+                    bytes: bytes.to_be_bytes(),
+                }),
+            ),
         )
     }
 
-    /// Checks one turn.
-    pub(crate) fn check(&mut self, rt: &impl Abort, turn: Turn) -> Result<(), Fail> {
-        let reaction = self.serve(0x605, turn.0)?;
-        assert!(rt; reaction.served == turn.1);
-        check_reply(rt, reaction.reply, turn.2)
-    }
-
-    /// Checks some turns, one after the other.
-    pub(crate) fn check_all(&mut self, rt: &impl Abort, turns: &[Turn]) -> Result<(), Fail> {
-        for &turn in turns {
-            self.check(rt, turn)?;
+    /// Whether some turns, one after the other, go as they should.
+    pub(crate) fn goes(&mut self, turns: &[Turn]) -> Result<bool, Fail> {
+        for &Turn(frame, served, answer) in turns {
+            let reaction = self.serve(0x605, frame)?;
+            if reaction.served != served || !is_reply(reaction.reply, answer) {
+                return Ok(false);
+            }
         }
-        Ok(())
-    }
-
-    /// Checks the same turns some times over.
-    pub(crate) fn check_times(
-        &mut self,
-        rt: &impl Abort,
-        times: usize,
-        turns: &[Turn],
-    ) -> Result<(), Fail> {
-        for _ in 0..times {
-            self.check_all(rt, turns)?;
-        }
-        Ok(())
+        Ok(true)
     }
 }
 
-/// A node with a block size that has begun a block write to 2001:00.
-pub(crate) fn begun(rt: &impl Abort, block_size: u8) -> Result<Setup, Fail> {
-    let mut setup = Setup::new(block_size);
-    setup.check(
-        rt,
-        Turn(
-            [0xc4, 1, 0x20, 0, 0, 0, 0, 0],
-            Served::Answered,
-            Some([0xa4, 1, 0x20, 0, block_size, 0, 0, 0]),
-        ),
-    )?;
-    Ok(setup)
-}
-
-/// Checks that a frame is the node's and has some bytes, or that there is none.
-pub(crate) fn check_reply(
-    rt: &impl Abort,
-    reply: Option<Frame>,
-    bytes: Option<[u8; 8]>,
-) -> Result<(), Fail> {
-    assert!(rt; reply.is_none_or(|frame| frame.identifier.number() == 0x585));
-    assert_eq!(rt; reply.map(|frame| frame.bytes), bytes);
-    Ok(())
-}
-
-/// Checks some turns at a new node with sub-blocks of 127 segments.
-pub(crate) fn check_run(rt: &impl Abort, turns: &[Turn]) -> Result<(), Fail> {
-    Setup::new(127).check_all(rt, turns)
+/// Whether a frame is the node's and has some bytes, or there is none.
+pub(crate) fn is_reply(reply: Option<Frame>, bytes: Option<u64>) -> bool {
+    reply.is_none_or(|frame| frame.identifier.number() == 0x585)
+        && reply.map(|frame| u64::from_be_bytes(frame.bytes)) == bytes
 }

@@ -1,5 +1,6 @@
 //! Ticks.
-use crate::setup::{Setup, Turn, begun, check_reply};
+use crate::cases::BLOCK_127;
+use crate::setup::{Setup, Turn, is_reply};
 use node::Served;
 use std::process::Abort;
 use std::test::Fail;
@@ -21,14 +22,14 @@ fn check_patient(rt: &impl Abort, setup: &mut Setup) -> Result<(), Fail> {
 
 /// Checks that the next tick ends the transfer.
 fn check_ends(rt: &impl Abort, setup: &mut Setup) -> Result<(), Fail> {
-    check_reply(rt, setup.node.tick(), Some([0x80, 1, 0x20, 0, 0, 0, 4, 5]))?;
+    assert!(rt; is_reply(setup.node.tick(), Some(0x80_012000_00000405)));
     assert!(rt; setup.node.is_idle());
     Ok(())
 }
 
 #[test]
 fn the_25th_tick_ends_a_transfer(rt: HostRuntime) -> Result<(), Fail> {
-    let mut setup = begun(&rt, 127)?;
+    let mut setup = Setup::in_state(&BLOCK_127)?;
     check_patient(&rt, &mut setup)?;
     check_ends(&rt, &mut setup)?;
     check_silent(&rt, &mut setup, 1)
@@ -36,25 +37,25 @@ fn the_25th_tick_ends_a_transfer(rt: HostRuntime) -> Result<(), Fail> {
 
 #[test]
 fn a_dropped_segment_restarts_the_time(rt: HostRuntime) -> Result<(), Fail> {
-    let mut setup = begun(&rt, 127)?;
+    let mut setup = Setup::in_state(&BLOCK_127)?;
     check_patient(&rt, &mut setup)?;
-    setup.check(&rt, Turn([2, 0, 0, 0, 0, 0, 0, 0], Served::Dropped, None))?;
+    assert!(rt; setup.goes(&[Turn(0x02_000000_00000000, Served::Dropped, None)])?);
     check_patient(&rt, &mut setup)?;
     check_ends(&rt, &mut setup)
 }
 
 #[test]
 fn a_foreign_frame_restarts_the_time(rt: HostRuntime) -> Result<(), Fail> {
-    let mut setup = begun(&rt, 127)?;
+    let mut setup = Setup::in_state(&BLOCK_127)?;
     check_patient(&rt, &mut setup)?;
-    assert!(rt; setup.serve(0x606, [0; 8])?.served == Served::Dropped);
+    assert!(rt; setup.serve(0x606, 0)?.served == Served::Dropped);
     check_patient(&rt, &mut setup)?;
     check_ends(&rt, &mut setup)
 }
 
 #[test]
 fn a_serve_that_finds_nothing_does_not_restart_the_time(rt: HostRuntime) -> Result<(), Fail> {
-    let mut setup = begun(&rt, 127)?;
+    let mut setup = Setup::in_state(&BLOCK_127)?;
     check_patient(&rt, &mut setup)?;
     assert!(rt; setup.node.serve(&mut setup.table, None).served == Served::NothingWaited);
     check_ends(&rt, &mut setup)

@@ -7,14 +7,14 @@ use Rattle.std.specs.Prelude.{All, codes, nat_le}
 use Rattle.std.specs.List.{onto_first, list_all}
 use Rattle.wire.specs.declared.multiplexor.Multiplexor.{Multiplexor}
 use Rattle.orders.specs.declared.fault.Fault.TheVariants.{NotExpedited}
-use Rattle.orders.specs.declared.transfer.Transfer.{Transfer}
-use Rattle.orders.specs.declared.transfer.Transfer.TheVariants.{Expedited, Segmented, Block}
+use Rattle.master.specs.declared.method.Method.{Method}
+use Rattle.master.specs.declared.method.Method.TheVariants.{Expedited, Segmented, Block}
 use Rattle.orders.specs.Lines.{faulty, longest, is_comment, without_return, bytes_in, value_in, order_of, order_at, order_behind, order_from, order_in, ordered}
 use Rattle.orders.specs.Pieces.{is_blank, is_line_end, pieces, not_empty, words, lines}
 use Rattle.orders.specs.Texts.{orders_on, orders_in, bad_on, bad_in}
-use Rattle.orders.specs.Transfers.{name_of, transfer_named, transfer_for}
-use Rattle.wire.specs.Texts.{hex_digit as digit_for, hex_byte}
-use Rattle.orders.specs.Written.{bytes_written, multiplexor_written, named_before, written, text_written, read_as, Sound, LinesReadBack, TextsReadBack}
+use Rattle.orders.specs.Methods.{name_of, method_named, method_for}
+use Rattle.wire.specs.Texts.{hex_digit, hex_byte, multiplexor_text}
+use Rattle.orders.specs.Written.{bytes_written, named_before, written, text_written, read_as, Sound, LinesReadBack, TextsReadBack}
 use Rattle.orders.proofs.Digits.{digit_above, digit_below, byte_read, multiplexor-read}
 
 -- a piece that holds no separator
@@ -53,15 +53,18 @@ letters (c ∷ w) test =
 byte_dark : (b : ℕ) → All (λ c. 48 ≤ c) (hex_byte b)
 byte_dark b =
     let Dark : ℕ → Type 0 = λ c. 48 ≤ c in
-    let high = digit_for (b / 16) in
-    let low = digit_for (b % 16) in
+    let high = hex_digit (b / 16) in
+    let low = hex_digit (b % 16) in
     All-cons Dark high (low ∷ []) (digit_above (b / 16)) (All-cons Dark low [] (digit_above (b % 16)) (All-nil Dark))
 
-multiplexor_dark : (m : Multiplexor) → All (λ c. 48 ≤ c) (multiplexor_written m)
+multiplexor_dark : (m : Multiplexor) → All (λ c. 48 ≤ c) (multiplexor_text m)
 multiplexor_dark m =
-    All-append (λ c. 48 ≤ c) (hex_byte (m.index / 256) ++ hex_byte (m.index % 256)) (58 ∷ hex_byte m.subindex)
-    (All-append (λ c. 48 ≤ c) (hex_byte (m.index / 256)) (hex_byte (m.index % 256)) (byte_dark (m.index / 256)) (byte_dark (m.index % 256)))
-    (All-cons (λ c. 48 ≤ c) 58 (hex_byte m.subindex) (omega arith) (byte_dark m.subindex))
+    let Dark : ℕ → Type 0 = λ c. 48 ≤ c in
+    let high = m.index / 256 % 256 in
+    let low = m.index % 256 in
+    let rest = codes ":" ++ hex_byte m.subindex in
+    All-append Dark (hex_byte high) (hex_byte low ++ rest) (byte_dark high)
+    (All-append Dark (hex_byte low) rest (byte_dark low) (All-cons Dark 58 (hex_byte m.subindex) (omega arith) (byte_dark m.subindex)))
 
 lighter : (w : List ℕ) → All (λ c. 48 ≤ c) w → All (λ c. 32 ≤ c) w
 lighter w h = All-weaker (λ c. 48 ≤ c) (λ c. 32 ≤ c) (λ c k. omega arith) w h
@@ -76,7 +79,7 @@ words-written : (c : ℕ) (w v : List ℕ) → Whole is_blank (c ∷ w) → word
 words-written c w [] whole = ap words (append-nil (c ∷ w)) ∙ ap not_empty (pieces-last is_blank c w whole) ∙ kept c w []
 words-written c w (b ∷ v) whole =
     ap not_empty (pieces_first is_blank 32 refl (c ∷ w) (hex_byte b ++ bytes_written v) whole) ∙ kept c w (pieces is_blank (hex_byte b ++ bytes_written v))
-    ∙ ap (λ ws. (c ∷ w) ∷ ws) (words-written (digit_for (b / 16)) (digit_for (b % 16) ∷ []) v (All-weaker (λ c. 48 ≤ c) (λ c. is_blank c ≡ false) dark (hex_byte b) (byte_dark b)))
+    ∙ ap (λ ws. (c ∷ w) ∷ ws) (words-written (hex_digit (b / 16)) (hex_digit (b % 16) ∷ []) v (All-weaker (λ c. 48 ≤ c) (λ c. is_blank c ≡ false) dark (hex_byte b) (byte_dark b)))
 
 bytes_read : (bs v : List ℕ) → All (λ b. b < 2 ^ 8) v → length bs + length v ≤ longest → bytes_in bs (map hex_byte v) ≡ Ok (bs ++ v)
 bytes_read bs [] small fits = rw append-nil
@@ -97,26 +100,26 @@ bytes_light (b ∷ v) =
     let Light : ℕ → Type 0 = λ c. 32 ≤ c in
     All-cons Light 32 (hex_byte b ++ bytes_written v) (omega arith) (All-append Light (hex_byte b) (bytes_written v) (lighter (hex_byte b) (byte_dark b)) (bytes_light v))
 
-order_light : (m : Multiplexor) (v : List ℕ) → All (λ c. 32 ≤ c) (multiplexor_written m ++ bytes_written v)
-order_light m v = All-append (λ c. 32 ≤ c) (multiplexor_written m) (bytes_written v) (lighter (multiplexor_written m) (multiplexor_dark m)) (bytes_light v)
+order_light : (m : Multiplexor) (v : List ℕ) → All (λ c. 32 ≤ c) (multiplexor_text m ++ bytes_written v)
+order_light m v = All-append (λ c. 32 ≤ c) (multiplexor_text m) (bytes_written v) (lighter (multiplexor_text m) (multiplexor_dark m)) (bytes_light v)
 
--- the names of transfers are letters
-name_dark : (t : Transfer) → All (λ c. 48 ≤ c) (name_of t)
+-- the names of methods are letters
+name_dark : (t : Method) → All (λ c. 48 ≤ c) (name_of t)
 name_dark Expedited = letters (name_of Expedited) refl
 name_dark Segmented = letters (name_of Segmented) refl
 name_dark Block = letters (name_of Block) refl
 
-name_whole : (t : Transfer) → Whole is_blank (name_of t)
+name_whole : (t : Method) → Whole is_blank (name_of t)
 name_whole t = All-weaker (λ c. 48 ≤ c) (λ c. is_blank c ≡ false) dark (name_of t) (name_dark t)
 
-name_read : (t : Transfer) → transfer_named (name_of t) ≡ Some t
+name_read : (t : Method) → method_named (name_of t) ≡ Some t
 name_read Expedited = refl
 name_read Segmented = refl
 name_read Block = refl
 
-light : (named : Option Transfer) (m : Multiplexor) (v : List ℕ) → All (λ c. 32 ≤ c) (written named m v)
+light : (named : Option Method) (m : Multiplexor) (v : List ℕ) → All (λ c. 32 ≤ c) (written named m v)
 light None m v = order_light m v
-light (Some t) m v = All-append (λ c. 32 ≤ c) (name_of t) (32 ∷ (multiplexor_written m ++ bytes_written v)) (lighter (name_of t) (name_dark t)) (All-cons (λ c. 32 ≤ c) 32 (multiplexor_written m ++ bytes_written v) (omega arith) (order_light m v))
+light (Some t) m v = All-append (λ c. 32 ≤ c) (name_of t) (32 ∷ (multiplexor_text m ++ bytes_written v)) (lighter (name_of t) (name_dark t)) (All-cons (λ c. 32 ≤ c) 32 (multiplexor_text m ++ bytes_written v) (omega arith) (order_light m v))
 
 no_return : (line : List ℕ) → All (λ c. 32 ≤ c) line → without_return line ≡ line
 no_return [] h = refl
@@ -125,40 +128,40 @@ no_return (c ∷ line) h =
     let other : eqb (get_or (c ∷ line) (length (c ∷ line) - 1) 0) 13 ≡ false = ne_eqb _ _ (λ e. omega arith) in
     cond-false _ _ _ other
 
--- a multiplexor is no name of a transfer
-multiplexor_unnamed : (m : Multiplexor) → m.index < 2 ^ 16 → transfer_named (multiplexor_written m) ≡ None
+-- a multiplexor is no name of a method
+multiplexor_unnamed : (m : Multiplexor) → m.index < 2 ^ 16 → method_named (multiplexor_text m) ≡ None
 multiplexor_unnamed m h =
-    let low : digit_for (m.index / 256 / 16) ≤ 70 = digit_below (m.index / 256 / 16) (omega arith) in
-    let e : eqb (digit_for (m.index / 256 / 16)) 101 ≡ false = ne_eqb _ _ (λ e. omega arith) in
-    let s : eqb (digit_for (m.index / 256 / 16)) 115 ≡ false = ne_eqb _ _ (λ e. omega arith) in
-    let b : eqb (digit_for (m.index / 256 / 16)) 98 ≡ false = ne_eqb _ _ (λ e. omega arith) in rw (e, s, b)
+    let low : hex_digit (m.index / 256 % 256 / 16) ≤ 70 = digit_below (m.index / 256 % 256 / 16) (omega arith) in
+    let e : eqb (hex_digit (m.index / 256 % 256 / 16)) 101 ≡ false = ne_eqb _ _ (λ e. omega arith) in
+    let s : eqb (hex_digit (m.index / 256 % 256 / 16)) 115 ≡ false = ne_eqb _ _ (λ e. omega arith) in
+    let b : eqb (hex_digit (m.index / 256 % 256 / 16)) 98 ≡ false = ne_eqb _ _ (λ e. omega arith) in rw (e, s, b)
 
--- the words of an order without the name of a transfer, and with it
-words_unnamed : (m : Multiplexor) (v : List ℕ) → words (multiplexor_written m ++ bytes_written v) ≡ multiplexor_written m ∷ map hex_byte v
-words_unnamed m v = words-written _ _ v (All-weaker (λ c. 48 ≤ c) (λ c. is_blank c ≡ false) dark (multiplexor_written m) (multiplexor_dark m))
+-- the words of an order without the name of a method, and with it
+words_unnamed : (m : Multiplexor) (v : List ℕ) → words (multiplexor_text m ++ bytes_written v) ≡ multiplexor_text m ∷ map hex_byte v
+words_unnamed m v = words-written _ _ v (All-weaker (λ c. 48 ≤ c) (λ c. is_blank c ≡ false) dark (multiplexor_text m) (multiplexor_dark m))
 
-words_named : (t : Transfer) (line : List ℕ) → words (named_before (Some t) line) ≡ name_of t ∷ words line
+words_named : (t : Method) (line : List ℕ) → words (named_before (Some t) line) ≡ name_of t ∷ words line
 words_named Expedited line = words_first 101 (codes "xpedited") line (name_whole Expedited)
 words_named Segmented line = words_first 115 (codes "egmented") line (name_whole Segmented)
 words_named Block line = words_first 98 (codes "lock") line (name_whole Block)
 
--- what the words of an order mean, whose transfer is named or not
-rest_read : (named : Option Transfer) (m : Multiplexor) (v : List ℕ) → Sound named m v → order_behind named (multiplexor_written m ∷ map hex_byte v) ≡ ordered (transfer_for named v) m v
+-- what the words of an order mean, whose method is named or not
+rest_read : (named : Option Method) (m : Multiplexor) (v : List ℕ) → Sound named m v → order_behind named (multiplexor_text m ∷ map hex_byte v) ≡ ordered (method_for named v) m v
 rest_read named m v sound =
     ap (λ o. order_at named o (map hex_byte v)) (multiplexor-read m sound.index sound.subindex)
     ∙ ap (order_of named m) (value_read v sound.bytes sound.some sound.most)
-    ∙ ap (λ b. cond b (ordered (transfer_for named v) m v) (faulty NotExpedited)) sound.room
+    ∙ ap (λ b. cond b (ordered (method_for named v) m v) (faulty NotExpedited)) sound.room
 
-words_read : (named : Option Transfer) (m : Multiplexor) (v : List ℕ) → Sound named m v → order_in (words (written named m v)) ≡ ordered (transfer_for named v) m v
-words_read None m v sound = ap order_in (words_unnamed m v) ∙ ap (λ n. order_from n (multiplexor_written m) (map hex_byte v)) (multiplexor_unnamed m sound.index) ∙ rest_read None m v sound
+words_read : (named : Option Method) (m : Multiplexor) (v : List ℕ) → Sound named m v → order_in (words (written named m v)) ≡ ordered (method_for named v) m v
+words_read None m v sound = ap order_in (words_unnamed m v) ∙ ap (λ n. order_from n (multiplexor_text m) (map hex_byte v)) (multiplexor_unnamed m sound.index) ∙ rest_read None m v sound
 words_read (Some t) m v sound =
-    ap order_in (words_named t (multiplexor_written m ++ bytes_written v) ∙ ap (λ ws. name_of t ∷ ws) (words_unnamed m v))
-    ∙ ap (λ n. order_from n (name_of t) (multiplexor_written m ∷ map hex_byte v)) (name_read t)
+    ap order_in (words_named t (multiplexor_text m ++ bytes_written v) ∙ ap (λ ws. name_of t ∷ ws) (words_unnamed m v))
+    ∙ ap (λ n. order_from n (name_of t) (multiplexor_text m ∷ map hex_byte v)) (name_read t)
     ∙ rest_read (Some t) m v sound
 
 -- an order's line is no comment
-no_comment : (named : Option Transfer) (m : Multiplexor) (v : List ℕ) → is_comment (written named m v) ≡ false
-no_comment None m v = ne_eqb _ _ (λ e. omega (arith, digit_above (m.index / 256 / 16)))
+no_comment : (named : Option Method) (m : Multiplexor) (v : List ℕ) → is_comment (written named m v) ≡ false
+no_comment None m v = ne_eqb _ _ (λ e. omega (arith, digit_above (m.index / 256 % 256 / 16)))
 no_comment (Some Expedited) m v = refl
 no_comment (Some Segmented) m v = refl
 no_comment (Some Block) m v = refl
@@ -167,12 +170,12 @@ pub lines_read_back : LinesReadBack
 lines_read_back named m v sound = cond-false _ _ _ (no_comment named m v) ∙ ap (λ l. order_in (words l)) (no_return (written named m v) (light named m v)) ∙ words_read named m v sound
 
 -- the same of all lines, the first of which has number n
-all_read : (os : List (Option Transfer × Multiplexor × List ℕ)) (n : ℕ) → All (λ o. Sound o.0 o.1 o.2) os → (orders_in (lines (text_written os)) ≡ map read_as os) × (bad_in n (lines (text_written os)) ≡ [])
+all_read : (os : List (Option Method × Multiplexor × List ℕ)) (n : ℕ) → All (λ o. Sound o.0 o.1 o.2) os → (orders_in (lines (text_written os)) ≡ map read_as os) × (bad_in n (lines (text_written os)) ≡ [])
 all_read [] n sound = (refl, refl)
 all_read (o ∷ os) n sound =
     let line = written o.0 o.1 o.2 in
     let parted : lines (text_written (o ∷ os)) ≡ line ∷ lines (text_written os) = pieces_first is_line_end 10 refl line (text_written os) (All-weaker (λ c. 32 ≤ c) (λ c. is_line_end c ≡ false) inline line (light o.0 o.1 o.2)) in
-    let Read : (Option Transfer × Multiplexor × List ℕ) → Type 0 = λ q. Sound q.0 q.1 q.2 in
+    let Read : (Option Method × Multiplexor × List ℕ) → Type 0 = λ q. Sound q.0 q.1 q.2 in
     let meant = lines_read_back o.0 o.1 o.2 (All-head Read o os sound) in
     let rest = all_read os (n + 1) (All-tail Read o os sound) in (
       ap orders_in parted ∙ ap (λ l. orders_on l ++ orders_in (lines (text_written os))) meant ∙ ap (λ l. read_as o ∷ l) rest.0,

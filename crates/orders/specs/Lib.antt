@@ -1,7 +1,7 @@
 pub mod Hex
 pub mod Lines
+pub mod Methods
 pub mod Pieces
 pub mod Reasons
 pub mod Texts
-pub mod Transfers
 pub mod Written

@@ -1,18 +1,19 @@
 -- What a line of orders means: nothing, an order, or the first thing wrong with it.
--- A line is read from left to right: a comment or a blank line is passed over; then comes a transfer, or none, then the multiplexor, then one byte after another.
+-- A line is read from left to right: a comment or a blank line is passed over; then comes a method, or none, then the multiplexor, then one byte after another.
 use Rattle.std.specs.Prelude.{◌≡◌, ℕ, ◌+◌, ◌-◌, Bool, true, false, cond, ◌⊎◌, List, [], ◌∷◌, ◌++◌, length, take, Some, None, Ok, Err, vec_items, Option, Result, ◌==◌, slice_index}
 use Rattle.wire.specs.declared.multiplexor.Multiplexor.{Multiplexor}
+use Rattle.master.specs.Methods.{takes}
 use Rattle.orders.specs.declared.fault.Fault.{Fault}
 use Rattle.orders.specs.declared.fault.Fault.TheVariants.{NotMultiplexor, NoBytes, NotByte, TooManyBytes, NotExpedited, OutOfMemory}
 use Rattle.orders.specs.declared.order.Order.{Order}
-use Rattle.orders.specs.declared.transfer.Transfer.{Transfer}
+use Rattle.master.specs.declared.method.Method.{Method}
 use Rattle.orders.specs.Hex.{byte_in, multiplexor_in}
 use Rattle.orders.specs.Pieces.{words}
-use Rattle.orders.specs.Transfers.{transfer_named, transfer_for, takes}
+use Rattle.orders.specs.Methods.{method_named, method_for}
 
 pub data Meaning : Type 0 where
   passed_over : Meaning
-  ordered : Transfer → Multiplexor → List ℕ → Meaning
+  ordered : Method → Multiplexor → List ℕ → Meaning
   faulty : Fault → Meaning
 
 -- the most bytes that an order may have
@@ -45,30 +46,30 @@ abbrev pub value_in : List (List ℕ) → Result (List ℕ) Fault
 value_in [] = Err NoBytes
 value_in (w ∷ ws) = bytes_in [] (w ∷ ws)
 
--- a value in a transfer that has room for it
-abbrev pub order_in_transfer : Transfer → Multiplexor → List ℕ → Meaning
-order_in_transfer t m v = cond (takes t (length v)) (ordered t m v) (faulty NotExpedited)
+-- a value by a method that has room for it
+abbrev pub order_by_method : Method → Multiplexor → List ℕ → Meaning
+order_by_method t m v = cond (takes t (length v)) (ordered t m v) (faulty NotExpedited)
 
-abbrev pub order_of : Option Transfer → Multiplexor → Result (List ℕ) Fault → Meaning
-order_of named m (Ok v) = order_in_transfer (transfer_for named v) m v
+abbrev pub order_of : Option Method → Multiplexor → Result (List ℕ) Fault → Meaning
+order_of named m (Ok v) = order_by_method (method_for named v) m v
 order_of named m (Err f) = faulty f
 
-abbrev pub order_at : Option Transfer → Option Multiplexor → List (List ℕ) → Meaning
+abbrev pub order_at : Option Method → Option Multiplexor → List (List ℕ) → Meaning
 order_at named None ws = faulty NotMultiplexor
 order_at named (Some m) ws = order_of named m (value_in ws)
 
-abbrev pub order_behind : Option Transfer → List (List ℕ) → Meaning
+abbrev pub order_behind : Option Method → List (List ℕ) → Meaning
 order_behind named [] = faulty NotMultiplexor
 order_behind named (w ∷ ws) = order_at named (multiplexor_in w) ws
 
--- the first word is a transfer, or the multiplexor
-abbrev pub order_from : Option Transfer → List ℕ → List (List ℕ) → Meaning
+-- the first word is a method, or the multiplexor
+abbrev pub order_from : Option Method → List ℕ → List (List ℕ) → Meaning
 order_from None w ws = order_behind None (w ∷ ws)
 order_from (Some t) w ws = order_behind (Some t) ws
 
 abbrev pub order_in : List (List ℕ) → Meaning
 order_in [] = passed_over
-order_in (w ∷ ws) = order_from (transfer_named w) w ws
+order_in (w ∷ ws) = order_from (method_named w) w ws
 
 abbrev pub line_meaning : List ℕ → Meaning
 line_meaning line = cond (is_comment line) passed_over (order_in (words (without_return line)))
@@ -80,7 +81,7 @@ is_order (faulty f) = false
 
 -- what was read of an order is what it means; only for an order can memory fail
 abbrev pub ReadsOrder : Result Order Fault → Meaning → Type 0
-ReadsOrder (Ok o) l = l ≡ ordered o.transfer o.multiplexor (vec_items o.value)
+ReadsOrder (Ok o) l = l ≡ ordered o.method o.multiplexor (vec_items o.value)
 ReadsOrder (Err f) l = (l ≡ faulty f) ⊎ ((f ≡ OutOfMemory) × (is_order l ≡ true))
 
 -- the same of a line

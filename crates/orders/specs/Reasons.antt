@@ -1,10 +1,10 @@
 -- What a fitter is told of a line that is no order.
 use Rattle.std.specs.Prelude.{ℕ, List, ◌++◌, codes, decimal}
+use Rattle.master.specs.Methods.{most_expedited}
 use Rattle.orders.specs.declared.bad_line.BadLine.{BadLine}
 use Rattle.orders.specs.declared.fault.Fault.{Fault}
 use Rattle.orders.specs.declared.fault.Fault.TheVariants.{NotMultiplexor, NoBytes, NotByte, TooManyBytes, NotExpedited, OutOfMemory}
 use Rattle.orders.specs.Lines.{longest}
-use Rattle.orders.specs.Transfers.{most_expedited}
 
 abbrev pub reason : Fault → List ℕ
 reason NotMultiplexor = codes "no IIII:SS, an index of four and a subindex of two hex digits, at the start or behind expedited, segmented or block"

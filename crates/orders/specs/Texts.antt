@@ -5,15 +5,15 @@ use Rattle.wire.specs.declared.multiplexor.Multiplexor.{Multiplexor}
 use Rattle.orders.specs.declared.bad_line.BadLine.{BadLine}
 use Rattle.orders.specs.declared.order.Order.{Order}
 use Rattle.orders.specs.declared.reading.Reading.{Reading}
-use Rattle.orders.specs.declared.transfer.Transfer.{Transfer}
+use Rattle.master.specs.declared.method.Method.{Method}
 use Rattle.orders.specs.Lines.{Meaning, passed_over, ordered, faulty, line_meaning}
 
--- an order as the transfer, the multiplexor and the bytes that it holds
-abbrev pub content : Order → Transfer × Multiplexor × List ℕ
-content o = (o.transfer, o.multiplexor, vec_items o.value)
+-- an order as the method, the multiplexor and the bytes that it holds
+abbrev pub content : Order → Method × Multiplexor × List ℕ
+content o = (o.method, o.multiplexor, vec_items o.value)
 
 -- the order of a line, if it has one
-abbrev pub orders_on : Meaning → List (Transfer × Multiplexor × List ℕ)
+abbrev pub orders_on : Meaning → List (Method × Multiplexor × List ℕ)
 orders_on passed_over = []
 orders_on (ordered t m v) = (t, m, v) ∷ []
 orders_on (faulty f) = []
@@ -25,7 +25,7 @@ bad_on n (ordered t m v) = []
 bad_on n (faulty f) = record { line = n; fault = f } ∷ []
 
 -- the orders of lines, in the lines' order
-abbrev pub orders_in : List (List ℕ) → List (Transfer × Multiplexor × List ℕ)
+abbrev pub orders_in : List (List ℕ) → List (Method × Multiplexor × List ℕ)
 orders_in [] = []
 orders_in (l ∷ ls) = orders_on (line_meaning l) ++ orders_in ls
 

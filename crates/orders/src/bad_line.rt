@@ -12,7 +12,6 @@ pub struct BadLine {
     pub fault: Fault,
 }
 
-// By hand: a derive would not state what is printed.
 impl fmt::Display for BadLine {
     ghost output = { λ b. Some (report b) };
 

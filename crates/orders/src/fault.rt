@@ -1,11 +1,11 @@
-//! Why a line is no order. A fault is the first that a reader meets from left to right: the first word, or the one behind a transfer,
+//! Why a line is no order. A fault is the first that a reader meets from left to right: the first word, or the one behind a method,
 //! is held to be a multiplexor, then each word after it to be a byte, and then to be no more than an order may have; at the line's end
-//! the bytes are held to be no more than their transfer has room for.
+//! the bytes are held to be no more than their method has room for.
 ghost use Rattle.std.specs.Prelude.{◌≡◌, Some};
 ghost use Rattle.orders.specs.Reasons.{reason};
 ghost use Rattle.orders.specs.declared.fault.Fault.TheVariants.{OutOfMemory};
 
-use crate::transfer::MOST_EXPEDITED;
+use master::MOST_EXPEDITED;
 use std::alloc::AllocError;
 use std::fmt;
 use wire::LONGEST;
@@ -27,7 +27,6 @@ pub enum Fault {
     OutOfMemory,
 }
 
-// By hand: a derive would not state what is printed.
 impl fmt::Display for Fault {
     ghost output = { λ f. Some (reason f) };
 
@@ -52,7 +51,7 @@ impl fmt::Display for Fault {
     }
 }
 
-// By hand: a derive would not state which fault `?` makes of an error.
+/// Want of memory is a fault of its own.
 impl From<AllocError> for Fault {
     ghost from_gives = { λ _ r. r ≡ OutOfMemory };
 

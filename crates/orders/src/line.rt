@@ -2,15 +2,16 @@
 ghost use Rattle.std.specs.Prelude.{◌≡◌, ℕ, List, MatchResult};
 ghost use Rattle.std.specs.Iterator.{IsFinite, AlwaysYields};
 ghost use Rattle.orders.specs.Hex.{multiplexor_in};
-ghost use Rattle.orders.specs.Lines.{is_comment, without_return, value_in, order_in_transfer, order_at, order_in, line_meaning, ReadsOrder, Reads};
+ghost use Rattle.orders.specs.Lines.{is_comment, without_return, value_in, order_by_method, order_at, order_in, line_meaning, ReadsOrder, Reads};
 ghost use Rattle.orders.specs.Pieces.{words};
-ghost use Rattle.orders.specs.Transfers.{transfer_for};
+ghost use Rattle.orders.specs.Methods.{method_for};
 
 use crate::fault::Fault;
 use crate::hex::{read_byte, read_multiplexor};
+use crate::method::read_method;
 use crate::order::Order;
-use crate::transfer::Transfer;
 use arrayvec::ArrayVec;
+use master::Method;
 use std::alloc::Global;
 use wire::{LONGEST, Multiplexor};
 
@@ -22,7 +23,7 @@ fn is_comment(line: &[u8]) -> bool
 }
 
 /// A line but for a carriage return at its end.
-fn without_return(line: &[u8]) -> &[u8]
+pub fn without_return(line: &[u8]) -> &[u8]
     ensures { result.now ≡ without_return line.now }
 {
     line.strip_suffix(b"\r").unwrap_or(line)
@@ -47,31 +48,31 @@ fn read_bytes<'a, W: Iterator<Item = &'a [u8]> + Drop>(
     Ok(bytes)
 }
 
-/// The order of a value, unless the transfer has no room for it.
+/// The order of a value, unless the method has no room for it.
 fn order_of(
     heap: Global,
-    named: Option<Transfer>,
+    named: Option<Method>,
     multiplexor: Multiplexor,
     bytes: &[u8],
 ) -> Result<Order, Fault>
-    ensures { ReadsOrder result (order_in_transfer (transfer_for named bytes.now) multiplexor bytes.now) }
+    ensures { ReadsOrder result (order_by_method (method_for named bytes.now) multiplexor bytes.now) }
 {
-    let transfer = named.unwrap_or(Transfer::fitting(bytes.len()));
-    if !transfer.takes(bytes.len()) {
+    let method = named.unwrap_or(Method::fitting(bytes.len()));
+    if !method.takes(bytes.len()) {
         return Err(Fault::NotExpedited);
     }
     let value = Vec::from_slice(heap, bytes)?;
     Ok(Order {
-        transfer,
+        method,
         multiplexor,
         value,
     })
 }
 
-/// The order that a word and those behind it write, whose transfer is named or not.
+/// The order that a word and those behind it write, whose method is named or not.
 fn read_rest<'a, W: Iterator<Item = &'a [u8]> + Drop>(
     heap: Global,
-    named: Option<Transfer>,
+    named: Option<Method>,
     word: &[u8],
     rest: W,
 ) -> Result<Order, Fault>
@@ -94,7 +95,7 @@ fn read_order(heap: Global, line: &[u8]) -> Result<Option<Order>, Fault>
     let Some(first) = words.next() else {
         return Ok(None);
     };
-    let named = Transfer::named(first);
+    let named = read_method(first);
     if named.is_none() {
         return Ok(Some(read_rest(heap, None, first, words)?));
     }

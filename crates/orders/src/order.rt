@@ -1,11 +1,11 @@
 //! One order of a load.
-use crate::transfer::Transfer;
+use master::Method;
 use wire::Multiplexor;
 
-/// A value to write, the address to write it at, and the transfer to write it in.
+/// A value to write, the address to write it at, and how to write it.
 #[derive(PartialEq, Debug, Drop)]
 pub struct Order {
-    pub transfer: Transfer,
+    pub method: Method,
     pub multiplexor: Multiplexor,
     pub value: Vec<u8>,
 }

@@ -1,5 +1,6 @@
 //! Lines and texts of orders, as fitters write them and as they should not.
-use orders::{BadLine, Fault, LONGEST, Order, Transfer, read_line, read_orders};
+use master::Method;
+use orders::{BadLine, Fault, LONGEST, Order, read_line, read_orders};
 use std::alloc::Global;
 use std::fmt::Write;
 use std::process::Abort;
@@ -35,10 +36,10 @@ fn check_order(
     }
 }
 
-/// The transfer of the order on a line.
-fn transfer_on(heap: Global, line: &[u8]) -> Result<Transfer, Fail> {
+/// The method of the order on a line.
+fn method_on(heap: Global, line: &[u8]) -> Result<Method, Fail> {
     match read_line(heap, line) {
-        Ok(Some(order)) => Ok(order.transfer),
+        Ok(Some(order)) => Ok(order.method),
         Ok(None) => Err(Fail::new("passed over")),
         Err(fault) => Err(Fail::new(fault)),
     }
@@ -102,20 +103,20 @@ fn either_case_and_any_blanks(rt: HostRuntime) -> Result<(), Fail> {
 }
 
 #[test]
-fn transfers_by_length(rt: HostRuntime) -> Result<(), Fail> {
+fn methods_by_length(rt: HostRuntime) -> Result<(), Fail> {
     let heap = rt.alloc();
-    for (count, transfer) in [
-        (1, Transfer::Expedited),
-        (4, Transfer::Expedited),
-        (5, Transfer::Segmented),
-        (56, Transfer::Segmented),
-        (57, Transfer::Block),
-        (1024, Transfer::Block),
+    for (count, method) in [
+        (1, Method::Expedited),
+        (4, Method::Expedited),
+        (5, Method::Segmented),
+        (56, Method::Segmented),
+        (57, Method::Block),
+        (1024, Method::Block),
     ] {
         let line = line_of(heap, count)?;
         assert_eq!(rt;
-            transfer_on(heap, line.as_bytes())?,
-            transfer,
+            method_on(heap, line.as_bytes())?,
+            method,
             "of {count} bytes"
         );
     }
@@ -123,7 +124,7 @@ fn transfers_by_length(rt: HostRuntime) -> Result<(), Fail> {
 }
 
 #[test]
-fn transfers_by_name(rt: HostRuntime) -> Result<(), Fail> {
+fn methods_by_name(rt: HostRuntime) -> Result<(), Fail> {
     let heap = rt.alloc();
     check_order(&rt, heap, b"expedited 2000:01 E8 03", 0x2000, 1, &[0xe8, 3])?;
     check_order(
@@ -134,19 +135,19 @@ fn transfers_by_name(rt: HostRuntime) -> Result<(), Fail> {
         1,
         &[0xe8, 3],
     )?;
-    for (line, transfer) in [
+    for (line, method) in [
         (
             b"expedited 2001:00 01 02 03 04".as_slice(),
-            Transfer::Expedited,
+            Method::Expedited,
         ),
-        (b"segmented 2001:00 01".as_slice(), Transfer::Segmented),
-        (b"block 2001:00 01 02 03 04 05".as_slice(), Transfer::Block),
+        (b"segmented 2001:00 01".as_slice(), Method::Segmented),
+        (b"block 2001:00 01 02 03 04 05".as_slice(), Method::Block),
     ] {
-        assert_eq!(rt; transfer_on(heap, line)?, transfer);
+        assert_eq!(rt; method_on(heap, line)?, method);
     }
     let longest = line_of(heap, 1024)?;
     let line = format!(in heap; "segmented {longest}")?;
-    assert_eq!(rt; transfer_on(heap, line.as_bytes())?, Transfer::Segmented);
+    assert_eq!(rt; method_on(heap, line.as_bytes())?, Method::Segmented);
     Ok(())
 }
 

@@ -1,6 +1,6 @@
 //! The register of abort codes: the layer that each belongs to.
 ghost use Rattle.std.specs.Prelude.{◌≡◌};
-ghost use Rattle.std.proofs.Common.{rules};
+ghost use Rattle.search.proofs.Ordering.{numbers_connected};
 ghost use Rattle.wire.specs.AbortCodes.{number};
 ghost use Rattle.register.specs.Layers.{layer_of};
 
@@ -21,7 +21,7 @@ impl Keyed for Registered {
         self.0
     }
 
-    ghost connected = { Prim.search rules };
+    ghost connected = { numbers_connected };
 }
 
 /// The rows of the register, rising by number.
@@ -47,7 +47,6 @@ const REGISTER: [Registered; 15] = [
 pub fn layer_of(code: AbortCode) -> Layer
     ensures { result ≡ layer_of (number code) }
 {
-    // By arms: map_or was tried, and what its closure gives was not proved without a clause longer than these arms.
     match place(&REGISTER, u32::from(code)) {
         Some(i) => REGISTER[i].1,
         None => Layer::Protocol,

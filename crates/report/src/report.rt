@@ -1,15 +1,20 @@
 //! The report of a transfer: what became of its value.
 ghost use Rattle.std.specs.Prelude.{◌≡◌};
-ghost use Rattle.report.specs.Reports.{report_of, failure_of, layer_in};
+ghost use Rattle.report.specs.Reports.{report_of, outcome_of, failure_of, layer_in};
 
-use crate::direction::Direction;
-use master::{Ending, Finder};
+use master::{Direction, Ending, Finder};
 use register::{Layer, layer_of};
 use wire::{AbortCode, Multiplexor};
 
+/// The report of a transfer.
+#[derive(Clone, Copy, PartialEq, Eq, Debug)]
+pub struct Report {
+    pub outcome: Outcome,
+}
+
 /// What became of a transfer.
 #[derive(Clone, Copy, PartialEq, Eq, Debug)]
-pub enum Report {
+pub enum Outcome {
     /// The value was set once, with exactly the ordered bytes.
     Written,
     /// The value was read; it has so many bytes.
@@ -41,19 +46,33 @@ pub fn report_of(
 ) -> Report
     ensures { result ≡ report_of direction multiplexor ending length }
 {
+    Report {
+        outcome: outcome_of(direction, multiplexor, ending, length),
+    }
+}
+
+/// What became of a transfer that has ended.
+fn outcome_of(
+    direction: Direction,
+    multiplexor: Multiplexor,
+    ending: Ending,
+    length: usize,
+) -> Outcome
+    ensures { result ≡ outcome_of direction multiplexor ending length }
+{
     match (direction, ending) {
-        (Direction::Download, Ok(())) => Report::Written,
-        (Direction::Upload, Ok(())) => Report::Read { length },
-        (Direction::Upload, Err(failure)) => Report::Unread(failure_of(multiplexor, failure)),
+        (Direction::Download, Ok(())) => Outcome::Written,
+        (Direction::Upload, Ok(())) => Outcome::Read { length },
+        (Direction::Upload, Err(failure)) => Outcome::Unread(failure_of(multiplexor, failure)),
         (Direction::Download, Err(failure)) if failure.may_be_set => {
-            Report::Undecided(failure_of(multiplexor, failure))
+            Outcome::Undecided(failure_of(multiplexor, failure))
         }
-        (Direction::Download, Err(failure)) => Report::Unwritten(failure_of(multiplexor, failure)),
+        (Direction::Download, Err(failure)) => Outcome::Unwritten(failure_of(multiplexor, failure)),
     }
 }
 
 /// A master's failure as it is reported.
-fn failure_of(multiplexor: Multiplexor, failure: master::Failure) -> Failure
+fn failure_of(multiplexor: Multiplexor, failure: master::Aborted) -> Failure
     ensures { result ≡ failure_of multiplexor failure }
 {
     Failure {

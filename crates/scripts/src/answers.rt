@@ -1,16 +1,16 @@
 //! What the lines of a script say and the calls answer, printed.
 use crate::script::Item;
-use bench::Answer;
-use commands::{heard_words, print_begun, print_settled, served_words, tick_words};
+use bench::Response;
+use commands::{Begun, NotUnderstood, Settled, heard_words, served_words, tick_words};
 use std::io;
 
 /// Prints a line for each call and for each line that is not understood, in their order.
-pub fn print_items(rt: &HostRuntime, items: &[Item], answers: &[Answer]) -> io::Result<()> {
+pub fn print_items(rt: &HostRuntime, items: &[Item], answers: &[Response]) -> io::Result<()> {
     let mut rest = answers.iter();
     for item in items {
         match item {
-            Item::NotUnderstood(number) => print_not_understood(rt, *number)?,
-            Item::Call(_) => {
+            Item::NotUnderstood(number) => println!(rt; "{}", NotUnderstood(*number))?,
+            Item::Command(_) => {
                 let times = item.repeated().map_or(0, |repeated| repeated.times);
                 for _ in 0..times {
                     if let Some(answer) = rest.next() {
@@ -23,27 +23,28 @@ pub fn print_items(rt: &HostRuntime, items: &[Item], answers: &[Answer]) -> io::
     Ok(())
 }
 
-/// Prints that a line is not understood.
-pub fn print_not_understood(rt: &HostRuntime, number: u64) -> io::Result<()> {
-    println!(rt; "line {number}: not understood")
-}
-
 /// Prints what a call answers.
-fn print_answer(rt: &HostRuntime, answer: &Answer) -> io::Result<()> {
+fn print_answer(rt: &HostRuntime, answer: &Response) -> io::Result<()> {
     match answer {
-        Answer::Begun(begun) => print_begun(rt, *begun),
-        Answer::Served(served) => {
+        Response::Begun(begun) => println!(rt; "{}", Begun(*begun)),
+        Response::Served(served) => {
             let words = served_words(*served);
             println!(rt; "serve: {words}")
         }
-        Answer::Heard(heard) => {
+        Response::Heard(heard) => {
             let words = heard_words(*heard);
             println!(rt; "hear: {words}")
         }
-        Answer::Ticked(ended) => {
-            let words = tick_words(*ended);
+        Response::Ticked(ticked) => {
+            let words = tick_words(ticked.ended);
             println!(rt; "tick: {words}")
         }
-        Answer::Settled { report, read } => print_settled(rt, *report, read.as_slice()),
+        Response::Settled { report, read } => {
+            let settled = Settled {
+                settled: *report,
+                buffer: read.as_slice(),
+            };
+            println!(rt; "{settled}")
+        }
     }
 }

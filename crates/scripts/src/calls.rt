@@ -1,7 +1,7 @@
 //! The calls of a bench that the lines of a script make.
 use crate::script::Item;
 use bench::Call;
-use commands::{Call as Asked, WriteOrder};
+use commands::{Command, WriteOrder};
 use std::alloc::{AllocError, Global};
 
 /// One call, made so many times.
@@ -24,30 +24,31 @@ pub fn calls_of<'a>(heap: Global, items: &'a [Item]) -> Result<Vec<Call<'a>>, Al
     Ok(calls)
 }
 
-/// The call that is asked for; none where a bench has none: for entries, for commits, and to settle a ticket without a number.
-pub fn repeated_call(asked: &Asked) -> Option<Repeated> {
-    match asked {
-        Asked::Read(multiplexor) => Some(once(Call::BeginRead {
+/// The call that a command asks for; none where it asks for none of a bench that is there: for entries, for commits, for a bench,
+/// and to settle a ticket without a number.
+pub fn repeated_call(command: &Command) -> Option<Repeated> {
+    match command {
+        Command::Read(multiplexor) => Some(once(Call::BeginRead {
             multiplexor: *multiplexor,
         })),
-        Asked::Write(order) => Some(once(write_call(order))),
-        Asked::Serve(times) => Some(Repeated {
+        Command::Write(order) => Some(once(write_call(order))),
+        Command::Serve(times) => Some(Repeated {
             call: Call::Serve,
             times: *times,
         }),
-        Asked::Hear(times) => Some(Repeated {
+        Command::Hear(times) => Some(Repeated {
             call: Call::Hear,
             times: *times,
         }),
-        Asked::Tick(times) => Some(Repeated {
+        Command::Tick(times) => Some(Repeated {
             call: Call::Tick,
             times: *times,
         }),
-        Asked::Settle { ticket, room } => Some(once(Call::Settle {
+        Command::Settle { ticket, room } => Some(once(Call::Settle {
             ticket: (*ticket)?,
             room: *room,
         })),
-        Asked::Entries | Asked::Commits => None,
+        Command::Bench(_) | Command::Entries | Command::Commits => None,
     }
 }
 

@@ -6,8 +6,8 @@ mod calls;
 mod runs;
 mod script;
 
-use answers::print_not_understood;
-use anyhow::ensure;
+use anyhow::anyhow;
+use commands::{NotUnderstood, asks_for_help};
 use runs::run_script;
 use script::{Input, read_input};
 use std::env;
@@ -42,7 +42,9 @@ fn main(rt: HostRuntime) -> anyhow::Result<ExitCode> {
 }
 
 fn run(rt: &HostRuntime) -> anyhow::Result<()> {
-    if asks_for_help(rt)? {
+    let arguments: Vec<String> = env::args(rt)?.skip(1).collect(rt.alloc())?;
+    let words: Vec<&str> = arguments.iter().map(|a| a.as_str()).collect(rt.alloc())?;
+    if asks_for_help(&words).map_err(|unknown| anyhow!("{unknown}"))? {
         rt.println(HELP)?;
         return Ok(());
     }
@@ -54,21 +56,11 @@ fn run(rt: &HostRuntime) -> anyhow::Result<()> {
 /// Runs all scripts of an input, one after the other.
 fn run_all(rt: &HostRuntime, input: &Input) -> anyhow::Result<()> {
     for number in &input.before {
-        print_not_understood(rt, *number)?;
+        println!(rt; "{}", NotUnderstood(*number))?;
     }
     for (number, script) in (1u64..).zip(&input.scripts) {
         println!(rt; "script {number}")?;
         run_script(rt, script)?;
     }
     Ok(())
-}
-
-/// Whether the arguments ask for help; any other argument is an error.
-fn asks_for_help(rt: &HostRuntime) -> anyhow::Result<bool> {
-    let mut asked = false;
-    for argument in env::args(rt)?.skip(1) {
-        asked = matches!(argument.as_str(), "--help" | "-h");
-        ensure!(asked, "unknown argument {argument}, try --help");
-    }
-    Ok(asked)
 }

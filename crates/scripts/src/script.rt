@@ -1,6 +1,6 @@
 //! The scripts of an input.
 use crate::calls::{Repeated, repeated_call};
-use commands::{BenchOrder, Call, Command, Fault, Settling, read_line};
+use commands::{BenchOrder, Command, Misread, Settling, read_line};
 use std::alloc::{AllocError, Global};
 
 /// What was read of an input.
@@ -21,17 +21,17 @@ pub struct Script {
 /// What a line of a script says.
 #[derive(Drop)]
 pub enum Item {
-    /// A call of the bench.
-    Call(Call),
+    /// A command that asks for calls of the bench.
+    Command(Command),
     /// Nothing that is understood; the number is that of the line.
     NotUnderstood(u64),
 }
 
 impl Item {
-    /// The item of a line that asks for something.
-    fn of_call(number: u64, call: Call) -> Item {
-        if repeated_call(&call).is_some() {
-            Item::Call(call)
+    /// The item of a line that has a command.
+    fn of_command(number: u64, command: Command) -> Item {
+        if repeated_call(&command).is_some() {
+            Item::Command(command)
         } else {
             Item::NotUnderstood(number)
         }
@@ -40,7 +40,7 @@ impl Item {
     /// The call that is made, and how often, if one is.
     pub fn repeated(&self) -> Option<Repeated> {
         match self {
-            Item::Call(call) => repeated_call(call),
+            Item::Command(command) => repeated_call(command),
             Item::NotUnderstood(_) => None,
         }
     }
@@ -52,9 +52,9 @@ impl Input {
         match read_line(heap, Settling::ByNumber, line) {
             Ok(None) => Ok(()),
             Ok(Some(Command::Bench(order))) => self.add_script(heap, order),
-            Ok(Some(Command::Call(call))) => self.add_item(number, Item::of_call(number, call)),
-            Err(Fault::NotUnderstood) => self.add_item(number, Item::NotUnderstood(number)),
-            Err(Fault::OutOfMemory) => Err(AllocError),
+            Ok(Some(command)) => self.add_item(number, Item::of_command(number, command)),
+            Err(Misread::NotUnderstood) => self.add_item(number, Item::NotUnderstood(number)),
+            Err(Misread::OutOfMemory) => Err(AllocError),
         }
     }
 

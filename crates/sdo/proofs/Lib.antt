@@ -3,3 +3,4 @@ pub mod Joining
 pub mod RoundTrips
 pub mod Spelling
 pub mod Sameness
+pub mod Comparing

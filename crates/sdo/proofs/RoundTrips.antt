@@ -2,12 +2,11 @@
 use Rattle.std.proofs.Common.{◌≡◌, ℕ, ◌+◌, ◌*◌, ◌/◌, ◌%◌, Bool, true, false, cond, eqb, List, [], ◌∷◌, ◌++◌, length, Some, None, Option, refl, ap, ◌∙◌, arith, ne_eqb}
 use Rattle.wire.specs.declared.multiplexor.Multiplexor.{Multiplexor}
 use Rattle.wire.specs.AbortCodes.{number}
-use Rattle.wire.specs.declared.layout.Initiate.TheVariants.{Download, Upload}
-use Rattle.wire.specs.Fields.{multiplexor_bytes, multiplexor_in, number_bytes, number_in, abort_bytes, abort_code_in}
-use Rattle.wire.specs.Transfers.{transfer_bits, transfer_bytes, transfer_in, initiate_bytes}
-use Rattle.wire.specs.Fits.{Indexed, Sized}
-use Rattle.wire.proofs.FieldsBack.{two_bytes, four_bytes, four_bits, multiplexor_back, download_back, upload_back, code_back}
-use Rattle.sdo.specs.Fields.{set_bit, last_seven}
+use Rattle.sdo.specs.declared.layout.Initiate.TheVariants.{Download, Upload}
+use Rattle.sdo.specs.Fields.{multiplexor_bytes, multiplexor_in, number_bytes, number_in, abort_bytes, abort_code_in, set_bit, last_seven}
+use Rattle.sdo.specs.Transfers.{transfer_bits, transfer_bytes, transfer_in, initiate_bytes}
+use Rattle.sdo.specs.Fits.{Indexed, Sized}
+use Rattle.sdo.proofs.FieldsBack.{two_bytes, four_bytes, four_bits, multiplexor_back, download_back, upload_back, code_back, toggle_back, last_back, data_back, segment_kind}
 use Rattle.sdo.specs.Segments.{segment_bytes, data_in, last_in}
 use Rattle.sdo.specs.Blocks.{end_bytes, crc_in}
 use Rattle.sdo.specs.Requests as request
@@ -17,7 +16,6 @@ use Rattle.sdo.specs.RoundTrips.{RequestsReadBack, BlockRequestsReadBack, Answer
 use Rattle.sdo.specs.declared.toggle.Toggle.TheVariants.{Zero, One}
 use Rattle.sdo.specs.declared.crc_offer.CrcOffer.{CrcOffer}
 use Rattle.sdo.specs.declared.crc_offer.CrcOffer.TheVariants.{Offered, NotOffered}
-use Rattle.sdo.proofs.FieldsBack.{toggle_back, last_back, data_back, segment_kind}
 use Rattle.sdo.proofs.Spelling.{from_the_first}
 
 block_start_back : (m : Multiplexor) → Indexed m → (crc : CrcOffer) (size : Option ℕ) → Sized size → request.request_in (request.request_bytes (request.InitiateBlockDownload m crc size)) ≡ Some (request.InitiateBlockDownload m crc size)
@@ -61,7 +59,7 @@ requests_read_back (request.EndBlockDownload n crc) (few, fits) =
     ∙ ap (λ x. Some (request.EndBlockDownload n x)) (two_bytes crc fits)
 requests_read_back (request.Abort m c) (own, proper) =
     ap (λ x. Some (request.Abort x (abort_code_in (abort_bytes m c)))) (multiplexor_back m own 0x80 (number_bytes (number c)))
-    ∙ ap (λ x. Some (request.Abort m x)) (code_back m own c proper)
+    ∙ ap (λ x. Some (request.Abort m x)) (code_back m c proper)
 
 -- a block segment, once its command is told apart from an abort's
 block_segment_back : (last : Bool) (s : ℕ) (v : List ℕ) → length v ≡ 7 → let b0 = 128 * set_bit last + s in eqb b0 0x80 ≡ false → eqb (b0 / 128 % 2) 1 ≡ last → b0 % 128 ≡ s → block.block_request_in (b0 ∷ v) ≡ block.Segment last s v
@@ -82,7 +80,7 @@ block_requests_read_back (block.Segment false s v) (few, seven) =
     block_segment_back false s v seven (ne_eqb (128 * 0 + s) 0x80 (λ e. omega arith)) (ap (λ q. eqb q 1) marked) (omega arith)
 block_requests_read_back (block.Abort m c) (own, proper) =
     ap (λ x. block.Abort x (abort_code_in (abort_bytes m c))) (multiplexor_back m own 0x80 (number_bytes (number c)))
-    ∙ ap (block.Abort m) (code_back m own c proper)
+    ∙ ap (block.Abort m) (code_back m c proper)
 
 pub answers_read_back : AnswersReadBack
 answers_read_back (answer.InitiateDownload m) own = ap (λ x. Some (answer.InitiateDownload x)) (multiplexor_back m own 0x60 (number_bytes 0))
@@ -107,4 +105,4 @@ answers_read_back (answer.AcknowledgeBlock kept size) fits = refl
 answers_read_back answer.EndBlockDownload fits = refl
 answers_read_back (answer.Abort m c) (own, proper) =
     ap (λ x. Some (answer.Abort x (abort_code_in (abort_bytes m c)))) (multiplexor_back m own 0x80 (number_bytes (number c)))
-    ∙ ap (λ x. Some (answer.Abort m x)) (code_back m own c proper)
+    ∙ ap (λ x. Some (answer.Abort m x)) (code_back m c proper)

@@ -2,11 +2,10 @@
 use Rattle.std.specs.Prelude.{ℕ, ◌+◌, ◌*◌, ◌%◌, Bool, cond, List, [], ◌∷◌, ◌++◌, Some, None, Option, ◌==◌}
 use Rattle.wire.specs.declared.multiplexor.Multiplexor.{Multiplexor}
 use Rattle.wire.specs.declared.abort_code.AbortCode.{AbortCode}
-use Rattle.wire.specs.declared.layout.Initiate.TheVariants.{Upload}
-use Rattle.wire.specs.Fields.{b, kind, multiplexor_bytes, multiplexor_in, number_bytes, abort_bytes, abort_code_in}
-use Rattle.wire.specs.FrameData.{value_in}
-use Rattle.wire.specs.Transfers.{Transfer, initiate_bytes, transfer_in, shown_transfer}
-use Rattle.sdo.specs.Fields.{bare}
+use Rattle.sdo.specs.declared.layout.Initiate.TheVariants.{Upload}
+use Rattle.sdo.specs.Fields.{b, kind, multiplexor_bytes, multiplexor_in, number_bytes, abort_bytes, abort_code_in, bare}
+use Rattle.sdo.specs.FrameData.{value_in}
+use Rattle.sdo.specs.Transfers.{Transfer, initiate_bytes, transfer_in, shown_transfer}
 use Rattle.sdo.specs.Segments.{toggle_bit, toggle_in, segment_bytes, data_in, last_in}
 use Rattle.sdo.specs.Blocks.{offer_bit, offer_in}
 use Rattle.sdo.specs.declared.toggle.Toggle.{Toggle}

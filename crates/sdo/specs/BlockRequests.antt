@@ -3,8 +3,7 @@
 use Rattle.std.specs.Prelude.{ℕ, ◌+◌, ◌*◌, ◌%◌, Bool, cond, List, ◌∷◌, ◌==◌}
 use Rattle.wire.specs.declared.multiplexor.Multiplexor.{Multiplexor}
 use Rattle.wire.specs.declared.abort_code.AbortCode.{AbortCode}
-use Rattle.wire.specs.Fields.{b, multiplexor_in, abort_bytes, abort_code_in}
-use Rattle.sdo.specs.Fields.{bit7, set_bit, last_seven}
+use Rattle.sdo.specs.Fields.{b, multiplexor_in, abort_bytes, abort_code_in, bit7, set_bit, last_seven}
 use Rattle.sdo.specs.declared.block_request.BlockRequest as declared
 
 -- a segment has whether it is the last, its number within the sub-block and seven bytes

@@ -1,7 +1,6 @@
 -- What block downloads have in their frames beside multiplexors and data: the offer of a CRC, a size, the end's fields.
 use Rattle.std.specs.Prelude.{ℕ, ◌+◌, ◌*◌, ◌/◌, ◌%◌, cond, List, [], ◌∷◌, Some, None, Option}
-use Rattle.wire.specs.Fields.{b, bit1, number_in}
-use Rattle.sdo.specs.Fields.{bit2}
+use Rattle.sdo.specs.Fields.{b, bit1, number_in, bit2}
 use Rattle.sdo.specs.declared.crc_offer.CrcOffer.{CrcOffer}
 use Rattle.sdo.specs.declared.ranged.Ranged.{Ranged}
 use Rattle.sdo.specs.declared.crc_offer.CrcOffer.TheVariants.{Offered, NotOffered}

@@ -1,5 +1,8 @@
 pub mod Ranges
 pub mod Fields
+pub mod FrameData
+pub mod Transfers
+pub mod Fits
 pub mod Segments
 pub mod Blocks
 pub mod Requests

@@ -1,12 +1,11 @@
 -- What a master asks of a node that receives no block segments, and its eight bytes.
-use Rattle.std.specs.Prelude.{ℕ, ◌+◌, ◌*◌, Bool, cond, List, ◌∷◌, ◌++◌, Some, None, Option, ◌==◌}
+use Rattle.std.specs.Prelude.{ℕ, ◌+◌, ◌*◌, Bool, true, false, cond, List, ◌∷◌, ◌++◌, Some, None, Option, ◌==◌}
 use Rattle.wire.specs.declared.multiplexor.Multiplexor.{Multiplexor}
 use Rattle.wire.specs.declared.abort_code.AbortCode.{AbortCode}
-use Rattle.wire.specs.declared.layout.Initiate.TheVariants.{Download}
-use Rattle.wire.specs.Fields.{b, bit0, kind, multiplexor_bytes, multiplexor_in, number_bytes, abort_bytes, abort_code_in}
-use Rattle.wire.specs.FrameData.{value_in}
-use Rattle.wire.specs.Transfers.{Transfer, initiate_bytes, transfer_in, shown_transfer}
-use Rattle.sdo.specs.Fields.{bare}
+use Rattle.sdo.specs.declared.layout.Initiate.TheVariants.{Download}
+use Rattle.sdo.specs.Fields.{b, bit0, kind, multiplexor_bytes, multiplexor_in, number_bytes, abort_bytes, abort_code_in, bare}
+use Rattle.sdo.specs.FrameData.{value_in}
+use Rattle.sdo.specs.Transfers.{Transfer, Expedited, Segmented, initiate_bytes, transfer_in, shown_transfer}
 use Rattle.sdo.specs.Segments.{toggle_bit, toggle_in, segment_bytes, data_in, last_in}
 use Rattle.sdo.specs.Blocks.{offer_bit, offer_in, size_bit, size_number, size_in, end_bytes, unused_in, crc_in}
 use Rattle.sdo.specs.declared.toggle.Toggle.{Toggle}
@@ -22,6 +21,17 @@ pub data Request : Type 0 where
   InitiateBlockDownload : Multiplexor → CrcOffer → Option ℕ → Request
   EndBlockDownload : ℕ → ℕ → Request
   Abort : Multiplexor → AbortCode → Request
+
+-- a request with which a value is whole, so that a node sets it: a start that carries the value, a segment that is marked as the last, the end of a block write
+abbrev pub completes : Request → Bool
+completes (InitiateDownload m (Expedited v)) = true
+completes (InitiateDownload m (Segmented size)) = false
+completes (DownloadSegment t v last) = last
+completes (InitiateUpload m) = false
+completes (UploadSegment t) = false
+completes (InitiateBlockDownload m c size) = false
+completes (EndBlockDownload unused k) = true
+completes (Abort m c) = false
 
 -- the bytes of a request
 abbrev pub request_bytes : Request → List ℕ

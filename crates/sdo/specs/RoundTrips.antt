@@ -1,6 +1,6 @@
 -- Reading what was made gives back what went in, for every message that fits its frame.
 use Rattle.std.specs.Prelude.{◌≡◌, ℕ, ◌^◌, ◌<◌, ◌≤◌, Bool, true, false, length, Some}
-use Rattle.wire.specs.Fits.{Indexed, Sized, Carried, Proper}
+use Rattle.sdo.specs.Fits.{Indexed, Sized, Carried, Proper}
 use Rattle.sdo.specs.Requests.{Request, request_bytes, request_in}
 use Rattle.sdo.specs.Requests as request
 use Rattle.sdo.specs.BlockRequests.{BlockRequest, block_request_bytes, block_request_in}

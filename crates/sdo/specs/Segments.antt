@@ -1,9 +1,8 @@
 -- Segments of a value: which part each one carries, and the bytes of a segment in both directions.
 -- A segment has up to seven bytes of the value, its toggle bit, and a mark if it is the last.
 use Rattle.std.specs.Prelude.{◌≡◌, ℕ, zero, suc, ◌+◌, ◌-◌, ◌*◌, ◌/◌, ◌%◌, Bool, true, false, cond, not, List, [], ◌∷◌, ◌++◌, length, take, drop, Some, None, Option, ◌==◌}
-use Rattle.wire.specs.Fields.{b, bit0}
-use Rattle.wire.specs.FrameData.{padded}
-use Rattle.sdo.specs.Fields.{bit4, set_bit, last_seven}
+use Rattle.sdo.specs.Fields.{b, bit0, bit4, set_bit, last_seven}
+use Rattle.sdo.specs.FrameData.{padded}
 use Rattle.sdo.specs.declared.toggle.Toggle.{Toggle}
 use Rattle.sdo.specs.declared.toggle.Toggle.TheVariants.{Zero, One}
 

@@ -5,11 +5,11 @@ ghost use Rattle.sdo.specs.Frames.{answer_frame};
 ghost use Rattle.sdo.specs.Answers.{answer_bytes, answer_in, shown_answer, block_started_in, acknowledgement_in, block_answer_in};
 
 use crate::crc_offer::CrcOffer;
+use crate::layout::{self, Initiate};
 use crate::segment_frame::Segment;
 use crate::toggle::Toggle;
-use crate::{making, reading};
-use wire::layout::{self, Initiate};
-use wire::{AbortCode, Frame, Identifier, Multiplexor, NodeNumber, Transfer};
+use crate::transfer::Transfer;
+use wire::{AbortCode, Frame, Identifier, Multiplexor, NodeNumber};
 
 /// An answer, by the CiA 301 name of its protocol.
 #[derive(Clone, Copy, PartialEq, Eq, Debug)]
@@ -54,9 +54,17 @@ impl Answer {
     pub fn to_bytes(&self) -> [u8; 8]
         ensures { result ≡ answer_bytes (shown_answer self.now) }
     {
+        self.spelled()
+    }
+
+    /// The eight bytes, folded into the caller's code where it knows the kind.
+    #[inline(always)]
+    fn spelled(&self) -> [u8; 8]
+        ensures { result ≡ answer_bytes (shown_answer self.now) }
+    {
         match *self {
             Answer::InitiateDownload { multiplexor } => layout::message(0x60, multiplexor, [0; 4]),
-            Answer::DownloadSegment { toggle } => making::alone(0x20 + 16 * toggle.bit()),
+            Answer::DownloadSegment { toggle } => layout::bare(0x20 + 16 * toggle.bit()),
             Answer::InitiateUpload {
                 multiplexor,
                 transfer,
@@ -71,20 +79,20 @@ impl Answer {
                 last_kept,
                 block_size,
             } => [0xa2, last_kept, block_size, 0, 0, 0, 0, 0],
-            Answer::EndBlockDownload => making::alone(0xa1),
+            Answer::EndBlockDownload => layout::bare(0xa1),
             Answer::Abort { multiplexor, code } => layout::abort(multiplexor, code),
         }
     }
 
     /// The answer in eight bytes; none where no answer is of their kind.
-    // No TryFrom: its error could say no more than that there is none, and the pair is named as the library's to_le_bytes is.
+    #[inline(always)]
     pub fn from_bytes(bytes: [u8; 8]) -> Option<Answer>
         ensures { option_map shown_answer result ≡ answer_in bytes }
     {
         match bytes[0] / 32 {
             0 => Some(Answer::UploadSegment(Segment::from_bytes(bytes))),
             1 => Some(Answer::DownloadSegment {
-                toggle: reading::toggle(bytes),
+                toggle: layout::toggle(bytes),
             }),
             2 => Some(Answer::InitiateUpload {
                 multiplexor: layout::multiplexor(bytes),
@@ -108,13 +116,13 @@ impl Answer {
     }
 
     /// The frame of the answer of a node.
-    // A line for each of three types of messages: a trait of theirs would have no other use.
+    #[inline(always)]
     pub fn to_frame(self, node: NodeNumber) -> Frame
         ensures { result ≡ answer_frame node (shown_answer self) }
     {
         Frame {
             identifier: Identifier::of_answers(node),
-            bytes: self.to_bytes(),
+            bytes: self.spelled(),
         }
     }
 }
@@ -125,7 +133,7 @@ fn block_started(bytes: [u8; 8]) -> Answer
 {
     Answer::InitiateBlockDownload {
         multiplexor: layout::multiplexor(bytes),
-        crc: reading::crc_offer(bytes),
+        crc: layout::crc_offer(bytes),
         block_size: bytes[4],
     }
 }

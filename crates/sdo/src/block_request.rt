@@ -3,9 +3,9 @@ ghost use Rattle.std.specs.Prelude.{◌≡◌};
 ghost use Rattle.sdo.specs.Frames.{block_request_frame};
 ghost use Rattle.sdo.specs.BlockRequests.{block_request_bytes, block_request_in, shown_block_request, block_segment_in};
 
-use crate::making;
+use crate::layout;
 use crate::ranged::SequenceNumber;
-use wire::{AbortCode, Frame, Identifier, Multiplexor, NodeNumber, layout};
+use wire::{AbortCode, Frame, Identifier, Multiplexor, NodeNumber};
 
 /// A segment of a sub-block, or an abort.
 #[derive(Clone, Copy, PartialEq, Eq, Debug)]
@@ -29,7 +29,7 @@ impl BlockRequest {
         ensures { result ≡ block_request_bytes (shown_block_request self.now) }
     {
         match *self {
-            BlockRequest::Segment { last, number, data } => making::full(
+            BlockRequest::Segment { last, number, data } => layout::full(
                 128 * last as u8 + number.number(),
                 data,
             ),
@@ -38,7 +38,6 @@ impl BlockRequest {
     }
 
     /// The request in eight bytes, as a node reads them that receives block segments.
-    // No From: the pair is named as the library's to_le_bytes and from_le_bytes are.
     pub fn from_bytes(bytes: [u8; 8]) -> BlockRequest
         ensures { shown_block_request result ≡ block_request_in bytes }
     {

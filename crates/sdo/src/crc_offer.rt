@@ -11,7 +11,6 @@ pub enum CrcOffer {
 
 impl CrcOffer {
     /// The bit as a number.
-    // Not one with a toggle's bit: each says which of its names is 1.
     pub(crate) fn bit(self) -> u8
         ensures value { result ≡ offer_bit self }
         ensures bound { result ≤ 1 }

@@ -23,7 +23,6 @@ pub type UnusedBytes = Ranged<0, 7>;
 
 impl<const LOW: u8, const HIGH: u8> Ranged<LOW, HIGH> {
     /// The number as one of the range; none where it lies outside.
-    // No TryFrom: as NonZero's new, it has nothing to say of a number that lies outside.
     pub fn new(number: u8) -> Option<Ranged<LOW, HIGH>>
         ensures { option_map (λ n. n.number) result ≡ in_range LOW HIGH number }
     {

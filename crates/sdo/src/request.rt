@@ -6,15 +6,14 @@ ghost use Rattle.sdo.specs.Blocks.{end_bytes};
 ghost use Rattle.sdo.specs.Requests.{request_bytes, request_in, shown_request, block_start_in, block_end_in, block_download_in};
 
 use crate::crc_offer::CrcOffer;
+use crate::layout::{self, Initiate};
 use crate::ranged::UnusedBytes;
 use crate::segment_frame::Segment;
 use crate::toggle::Toggle;
-use crate::{making, reading};
-use wire::layout::{self, Initiate};
-use wire::{AbortCode, Frame, Identifier, Multiplexor, NodeNumber, Transfer};
+use crate::transfer::Transfer;
+use wire::{AbortCode, Frame, Identifier, Multiplexor, NodeNumber};
 
 /// A request, by the CiA 301 name of its protocol.
-// No model: an enum can have none, and clauses see a message by shown_request.
 #[derive(Clone, Copy, PartialEq, Eq, Debug)]
 pub enum Request {
     /// The start of a write.
@@ -55,6 +54,14 @@ impl Request {
     pub fn to_bytes(&self) -> [u8; 8]
         ensures { result ≡ request_bytes (shown_request self.now) }
     {
+        self.spelled()
+    }
+
+    /// The eight bytes, folded into the caller's code where it knows the kind.
+    #[inline(always)]
+    fn spelled(&self) -> [u8; 8]
+        ensures { result ≡ request_bytes (shown_request self.now) }
+    {
         match *self {
             Request::InitiateDownload {
                 multiplexor,
@@ -62,7 +69,7 @@ impl Request {
             } => Initiate::Download.message(multiplexor, transfer),
             Request::DownloadSegment(segment) => segment.to_bytes(),
             Request::InitiateUpload { multiplexor } => layout::message(0x40, multiplexor, [0; 4]),
-            Request::UploadSegment { toggle } => making::alone(0x60 + 16 * toggle.bit()),
+            Request::UploadSegment { toggle } => layout::bare(0x60 + 16 * toggle.bit()),
             Request::InitiateBlockDownload {
                 multiplexor,
                 crc,
@@ -78,7 +85,7 @@ impl Request {
     }
 
     /// The request in eight bytes, as a node reads them that receives no block segments; none where no request is of their kind.
-    // No TryFrom: its error could say no more than that there is none, and the pair is named as the library's to_le_bytes is.
+    #[inline(always)]
     pub fn from_bytes(bytes: [u8; 8]) -> Option<Request>
         ensures { option_map shown_request result ≡ request_in bytes }
     {
@@ -92,7 +99,7 @@ impl Request {
                 multiplexor: layout::multiplexor(bytes),
             }),
             3 => Some(Request::UploadSegment {
-                toggle: reading::toggle(bytes),
+                toggle: layout::toggle(bytes),
             }),
             4 => Some(Request::Abort {
                 multiplexor: layout::multiplexor(bytes),
@@ -104,12 +111,13 @@ impl Request {
     }
 
     /// The frame of the request to a node.
+    #[inline(always)]
     pub fn to_frame(self, node: NodeNumber) -> Frame
         ensures { result ≡ request_frame node (shown_request self) }
     {
         Frame {
             identifier: Identifier::of_requests(node),
-            bytes: self.to_bytes(),
+            bytes: self.spelled(),
         }
     }
 }
@@ -132,7 +140,7 @@ fn block_start(bytes: [u8; 8]) -> Request
     let size = (bytes[0] / 2 % 2 == 1).then_some(layout::number(bytes));
     Request::InitiateBlockDownload {
         multiplexor: layout::multiplexor(bytes),
-        crc: reading::crc_offer(bytes),
+        crc: layout::crc_offer(bytes),
         size,
     }
 }

@@ -1,11 +1,11 @@
 //! A segment of a value, the same in both directions (CiA 301, 7.2.4.3: SDO download segment and SDO upload segment).
 ghost use Rattle.std.specs.Prelude.{◌≡◌};
-ghost use Rattle.wire.specs.FrameData.{value_in};
+ghost use Rattle.sdo.specs.FrameData.{value_in};
 ghost use Rattle.sdo.specs.Segments.{segment_bytes, toggle_in, data_in, last_in};
 
+use crate::layout;
 use crate::segment_data::SegmentData;
 use crate::toggle::Toggle;
-use crate::{making, reading};
 
 /// A segment by its toggle, its bytes of the value, and whether it is the last.
 #[derive(Clone, Copy, PartialEq, Eq, Debug)]
@@ -17,12 +17,11 @@ pub struct Segment {
 
 impl Segment {
     /// The eight bytes of the segment.
-    // No From: the pair is named as that of the messages is.
     pub(crate) fn to_bytes(&self) -> [u8; 8]
         ensures { result ≡ segment_bytes self.now.toggle (value_in self.now.bytes) self.now.last }
     {
         let command = 16 * self.toggle.bit() + 2 * self.bytes.unused() as u8 + self.last as u8;
-        making::full(command, self.bytes.padded())
+        layout::full(command, self.bytes.padded())
     }
 
     /// The segment in eight bytes.
@@ -32,7 +31,7 @@ impl Segment {
         ensures last { result.last ≡ last_in bytes }
     {
         Segment {
-            toggle: reading::toggle(bytes),
+            toggle: layout::toggle(bytes),
             bytes: carried(bytes),
             last: bytes[0] % 2 == 1,
         }

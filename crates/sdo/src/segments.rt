@@ -6,7 +6,6 @@ ghost use Rattle.sdo.specs.Segments.{differs, segment, SegmentsJoin};
 pub fn segment(value: &[u8], number: usize) -> &[u8]
     ensures { result.now ≡ segment number value.now }
 {
-    // By its two bounds: the library's chunks would need the case of number 0 and one for none beside it, and is no plainer.
     if number == 0 || number - 1 > value.len() / 7 {
         return &[];
     }

@@ -21,7 +21,6 @@ impl Toggle {
     }
 
     /// The bit as a number.
-    // Not one with a CRC offer's bit: each says which of its names is 1.
     pub(crate) fn bit(self) -> u8
         ensures value { result ≡ toggle_bit self }
         ensures bound { result ≤ 1 }

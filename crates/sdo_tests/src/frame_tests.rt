@@ -77,11 +77,11 @@ fn aborts_carry_listed_and_other_codes(rt: HostRuntime) {
     assert!(rt; Answer::from_bytes([0x9f, 0, 0x20, 1, 2, 0, 1, 6]) == Some(refused));
     let odd = Request::Abort {
         multiplexor: RAMP,
-        code: AbortCode::Other(0x06040043),
+        code: AbortCode::from(0x06040043),
     };
     assert!(rt; Request::from_bytes([0x80, 0, 0x20, 1, 0x43, 0, 4, 6]) == Some(odd));
     assert!(rt; AbortCode::from(0x08000000) == AbortCode::GeneralError);
-    assert_eq!(rt; AbortCode::Other(1).words(), "code not listed");
+    assert_eq!(rt; AbortCode::from(1).words(), "code not listed");
 }
 
 /// A code, its number and its words.

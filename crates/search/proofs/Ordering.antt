@@ -1,12 +1,11 @@
 -- What follows for the order of keys from how they compare.
-use Rattle.std.proofs.Common.{◌≡◌, ℕ, Bool, true, not, List, Option, refl, ap, subst, ◌∙◌, Ordering, Less, Equal, Greater, arith}
-use Rattle.std.proofs.lemmas.Grind.{common_steps}
+use Rattle.std.proofs.Common.{◌≡◌, ℕ, Bool, true, not, List, Option, refl, ap, subst, ◌∙◌, Ordering, Less, Equal, Greater}
+use Rattle.std.proofs.Math.Nat.{le_antisymm}
+use Rattle.std.proofs.lemmas.Map.Keys.{ge_from_not_lt}
 use Rattle.std.specs.Cmp.{IsTotalOrder, tied_itself}
-use Rattle.std.specs.Ordering.{is_lt, is_le, nat_cmp, ordering_reverse, ordering_then}
-use Rattle.wire.specs.declared.multiplexor.Multiplexor.{Multiplexor}
-use Rattle.wire.specs.Multiplexors.{before}
-use Rattle.search.specs.Orders.{earlier, Irreflexive, Transitive}
-use Rattle.search.specs.Places.{Rising, Answers}
+use Rattle.std.specs.Ordering.{is_lt, is_le, nat_cmp, ordering_reverse}
+use Rattle.search.specs.Orders.{earlier, Irreflexive, Transitive, Connected}
+use Rattle.search.specs.Places.{Rising, Answers, Parts}
 
 less : (o : Ordering) → is_lt o ≡ true → o ≡ Less
 less Less h = refl
@@ -29,9 +28,9 @@ module _ {K : Type 0} {cmp : K → K → Ordering} (total : IsTotalOrder cmp) wh
   pub from_behind : (a b : K) → earlier cmp a b ≡ not (is_le (cmp b a))
   from_behind a b = ap is_lt (total.antisymm a b) ∙ turned (cmp b a)
 
--- the order of multiplexors by their fields is the one by index, then by subindex
-pub by_fields : (a b : Multiplexor) → earlier (λ (m n : Multiplexor). ordering_then (nat_cmp m.index n.index) (nat_cmp m.subindex n.subindex)) a b ≡ before a b
-by_fields a b = grind (arith, common_steps)
+-- of two different numbers one stands before the other
+pub numbers_connected : Connected (earlier nat_cmp)
+numbers_connected a b p q = le_antisymm (ge_from_not_lt b a q) (ge_from_not_lt a b p)
 
 one_test : {K : Type 0} {test other : K → K → Bool} → ((a b : K) → test a b ≡ other a b) → test ≡ other
 one_test alike = λ i a b. alike a b i
@@ -40,3 +39,6 @@ one_test alike = λ i a b. alike a b i
 module _ {K R : Type 0} {test other : K → K → Bool} (alike : (a b : K) → test a b ≡ other a b) {key : R → K} {k : K} {rs : List R} where
   pub answers_by : {o : Option ℕ} → (Rising test key rs → Answers test key k rs o) → Rising other key rs → Answers other key k rs o
   answers_by {o} = let P : (K → K → Bool) → Type 0 = λ t. Rising t key rs → Answers t key k rs o in subst P (one_test alike)
+
+  pub parts_by : {n : ℕ} → (Rising test key rs → Parts test key k rs n) → Rising other key rs → Parts other key k rs n
+  parts_by {n} = let P : (K → K → Bool) → Type 0 = λ t. Rising t key rs → Parts t key k rs n in subst P (one_test alike)

@@ -11,7 +11,6 @@ pub fn place<R: Keyed>(rows: &[R], key: R::Key) -> Option<usize>
     ensures stands { IfSome result (λ i. Stands R.Keyed.label key rows.now i) }
     ensures answers { Rising (earlier R.Key.cmp) R.Keyed.label rows.now → Answers (earlier R.Key.cmp) R.Keyed.label key rows.now result }
 {
-    // By count_before, so that one search is proved: the library's binary_search_by_key would be a second beside its loop.
     let first = count_before(rows, key);
     let row = rows.get(first)?;
     (row.key() <= key).then_some(first)
@@ -22,7 +21,6 @@ pub fn count_before<R: Keyed>(rows: &[R], key: R::Key) -> usize
     ensures border { Border (earlier R.Key.cmp) R.Keyed.label key rows.now result }
     ensures parts { Rising (earlier R.Key.cmp) R.Keyed.label rows.now → Parts (earlier R.Key.cmp) R.Keyed.label key rows.now result }
 {
-    // By hand: the library's partition_point promises no border in rows that do not rise.
     let mut low = 0;
     let mut high = rows.len();
     while low < high {

@@ -4,7 +4,9 @@
 mod binary;
 mod keyed;
 mod orders;
+#[cfg(test)]
+mod tests;
 
 pub use binary::{count_before, place};
 pub use keyed::Keyed;
-pub use orders::{multiplexors_ordered, numbers_ordered, ordered};
+pub use orders::{numbers_ordered, ordered};

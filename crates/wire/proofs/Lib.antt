@@ -1,5 +1,6 @@
-pub mod FieldsBack
 pub mod Identifiers
 pub mod Sameness
 pub mod Codes
 pub mod Spelling
+pub mod Multiplexors
+pub mod Nearness

@@ -1,5 +1,6 @@
 -- The abort codes of CiA 301: one list of cases, numbers and words.
-use Rattle.std.specs.Prelude.{◌≡◌, ◌≢◌, ℕ, cond, List, [], ◌∷◌, codes, ◌==◌}
+use Rattle.std.specs.Prelude.{◌≡◌, ℕ, Bool, true, false, cond, List, [], ◌∷◌, codes, ◌==◌, refl}
+use Rattle.wire.specs.CodeNumbers.{is_listed}
 use Rattle.wire.specs.declared.abort_code.AbortCode.{AbortCode}
 use Rattle.wire.specs.declared.abort_code.AbortCode.TheVariants.{ToggleNotAlternated, TimedOut, UnknownCommand, InvalidBlockSize, InvalidSequenceNumber, CrcError, OutOfMemory, WriteOnly, ReadOnly, NoObject, LengthMismatch, LengthTooHigh, LengthTooLow, NoSubindex, InvalidValue, GeneralError, Other}
 
@@ -25,7 +26,7 @@ listed LengthTooLow = record { number = 0x0607_0013; words = codes "length of th
 listed NoSubindex = record { number = 0x0609_0011; words = codes "subindex does not exist" }
 listed InvalidValue = record { number = 0x0609_0030; words = codes "invalid value for the parameter" }
 listed GeneralError = record { number = 0x0800_0000; words = codes "general error" }
-listed (Other n) = record { number = n; words = codes "code not listed" }
+listed (Other o) = record { number = o.number; words = codes "code not listed" }
 
 abbrev pub number : AbortCode → ℕ
 number c = (listed c).number
@@ -37,14 +38,19 @@ words c = (listed c).words
 abbrev pub rows : List AbortCode
 rows = ToggleNotAlternated ∷ TimedOut ∷ UnknownCommand ∷ InvalidBlockSize ∷ InvalidSequenceNumber ∷ CrcError ∷ OutOfMemory ∷ WriteOnly ∷ ReadOnly ∷ NoObject ∷ LengthMismatch ∷ LengthTooHigh ∷ LengthTooLow ∷ NoSubindex ∷ InvalidValue ∷ GeneralError ∷ []
 
--- the first of some cases that has a number, else the case for any other
-abbrev pub code_among : List AbortCode → ℕ → AbortCode
-code_among [] n = Other n
-code_among (c ∷ cs) n = cond (n == number c) c (code_among cs n)
+-- the first of some cases that has a number, else another
+abbrev pub code_among : List AbortCode → AbortCode → ℕ → AbortCode
+code_among [] other n = other
+code_among (c ∷ cs) other n = cond (n == number c) c (code_among cs other n)
 
-abbrev pub code : ℕ → AbortCode
-code n = code_among rows n
+-- the code of a number, by whether it is listed
+abbrev pub code_by : (n : ℕ) (b : Bool) → is_listed n ≡ b → AbortCode
+code_by n true h = code_among rows GeneralError n
+code_by n false h = Other (record { number = n; unlisted = h })
 
--- every number is that of its code, and every code that has a name is that of its number
+unfoldable pub code : ℕ → AbortCode
+code n = code_by n (is_listed n) refl
+
+-- every number is that of its code, and every code is that of its number
 abbrev pub CodesReadBack : Type 0
-CodesReadBack = ((n : ℕ) → number (code n) ≡ n) × ((c : AbortCode) → ((n : ℕ) → c ≢ Other n) → code (number c) ≡ c)
+CodesReadBack = ((n : ℕ) → number (code n) ≡ n) × ((c : AbortCode) → code (number c) ≡ c)

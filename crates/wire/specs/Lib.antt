@@ -1,10 +1,7 @@
+pub mod CodeNumbers
 pub mod AbortCodes
 pub mod Multiplexors
 pub mod Ranges
-pub mod FrameData
-pub mod Fields
-pub mod Transfers
 pub mod Frames
 pub mod Texts
-pub mod Fits
 pub mod Equality

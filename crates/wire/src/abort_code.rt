@@ -2,6 +2,8 @@
 ghost use Rattle.std.specs.Prelude.{◌≡◌};
 ghost use Rattle.wire.specs.AbortCodes.{number, words, code, CodesReadBack};
 
+use crate::other_code::OtherCode;
+
 /// The abort codes of CiA 301 that have a name here, and any other.
 #[derive(Clone, Copy, PartialEq, Eq, Debug)]
 pub enum AbortCode {
@@ -21,7 +23,7 @@ pub enum AbortCode {
     NoSubindex,
     InvalidValue,
     GeneralError,
-    Other(u32),
+    Other(OtherCode),
 }
 
 impl AbortCode {
@@ -73,7 +75,7 @@ impl From<AbortCode> for u32 {
             AbortCode::NoSubindex => 0x0609_0011,
             AbortCode::InvalidValue => 0x0609_0030,
             AbortCode::GeneralError => 0x0800_0000,
-            AbortCode::Other(number) => number,
+            AbortCode::Other(other) => other.number,
         }
     }
 }
@@ -82,6 +84,7 @@ impl From<AbortCode> for u32 {
 impl From<u32> for AbortCode {
     ghost from_gives = { λ n result. result ≡ code n };
 
+    #[tactic(auto, unfolding(crate::specs::AbortCodes::code, crate::specs::CodeNumbers::is_listed))]
     fn from(n: u32) -> AbortCode {
         match n {
             0x0503_0000 => AbortCode::ToggleNotAlternated,
@@ -100,7 +103,7 @@ impl From<u32> for AbortCode {
             0x0609_0011 => AbortCode::NoSubindex,
             0x0609_0030 => AbortCode::InvalidValue,
             0x0800_0000 => AbortCode::GeneralError,
-            _ => AbortCode::Other(n),
+            _ => AbortCode::Other(OtherCode { number: n }),
         }
     }
 }

@@ -14,7 +14,6 @@ pub struct Identifier {
 
 impl Identifier {
     /// The identifier with a number below 2,048; none for a larger one.
-    // No TryFrom: as NonZero's new, it has nothing to say of a number that is too large.
     pub fn new(number: u16) -> Option<Identifier>
         ensures { option_map (λ i. i.number) result ≡ eleven_bits number }
     {
@@ -26,7 +25,6 @@ impl Identifier {
     }
 
     /// The identifier with which a master sends to a node: 0x600 plus the node's number.
-    // Two functions for the two directions: one would take the direction, and say no more.
     pub fn of_requests(node: NodeNumber) -> Identifier
         ensures { result.number ≡ 0x600 + node.number }
     {

@@ -3,7 +3,6 @@ ghost use Rattle.std.specs.Prelude.{◌≡◌, ◌≤◌};
 ghost use Rattle.wire.specs.Ranges.{nearest};
 
 /// A node's number, 1 to 127.
-// Not one type with a block size, whose range is the same: one could be handed in for the other.
 #[derive(Clone, Copy, PartialEq, Eq, Debug)]
 pub struct NodeNumber {
     number: u8,

@@ -13,7 +13,6 @@ use std::fmt;
 pub struct Hex(pub u8);
 
 /// The digit of a number below 16.
-// By hand: `{:02X}` was tried, and that it prints these two digits was not proved.
 fn digit(n: u8) -> char
     requires { n < 16 }
     ensures value { result ≡ hex_digit n }

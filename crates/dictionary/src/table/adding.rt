@@ -74,7 +74,6 @@ impl Table {
     }
 
     /// Takes an entry that nothing speaks against.
-    // Three values and no struct of them: who adds an entry has them apart, and each clause names what it speaks of.
     fn append(&mut self, multiplexor: Multiplexor, attributes: Attributes, value: &[u8])
         requires { add_refusal (table_entries self.old) multiplexor attributes value.now ≡ None }
         ensures { table_entries self.new ≡ table_entries self.old ++ plain multiplexor attributes value.now ∷ [] }

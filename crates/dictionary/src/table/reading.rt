@@ -5,6 +5,7 @@ ghost use Rattle.dictionary.specs.Tables.{table_entries, table_lawful};
 ghost use Rattle.dictionary.specs.Verdicts.{read_verdict};
 
 use crate::attributes::Attributes;
+use crate::front::copy_to_front;
 use crate::readable::Readable;
 use crate::refusal::CopyRefusal;
 use crate::table::Table;
@@ -26,16 +27,11 @@ impl Readable for Table {
         multiplexor: Multiplexor,
         buffer: &mut [u8],
     ) -> Result<usize, CopyRefusal> {
-        let value = self.readable(multiplexor)?;
-        if buffer.len() < value.len() {
-            return Err(CopyRefusal::ShortBuffer);
-        }
-        buffer[..value.len()].copy_from_slice(value);
-        Ok(value.len())
+        copy_to_front(self.readable(multiplexor)?, buffer)
     }
 
     fn next(&self, above: Multiplexor) -> Option<Multiplexor> {
-        let first = self.rows.partition_point(|row| row.multiplexor <= above);
+        let first = self.first_above(above);
         self.rows.get(first).map(|row| row.multiplexor)
     }
 }

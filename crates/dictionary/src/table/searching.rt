@@ -1,11 +1,12 @@
 //! Finding the entry that is asked for.
-ghost use Rattle.std.specs.Prelude.{◌≡◌, MatchResult};
+ghost use Rattle.std.specs.Prelude.{◌≡◌, slice_get, MatchResult};
+ghost use Rattle.std.specs.Option.{option_map};
 ghost use Rattle.dictionary.specs.Entries.{has_index};
-ghost use Rattle.dictionary.specs.Questions.{absence};
+ghost use Rattle.dictionary.specs.Questions.{absence, next_above};
 ghost use Rattle.dictionary.specs.Tables.{table_entries, Stands, Absent};
 
 use crate::table::Table;
-use search::place;
+use search::{count_before, place};
 use wire::{AbortCode, Multiplexor};
 
 impl Table {
@@ -31,6 +32,20 @@ impl Table {
     fn has_index(&self, index: u16) -> bool
         ensures { result ≡ has_index index (table_entries self.now) }
     {
-        self.rows.iter().any(|row| row.multiplexor.index == index)
+        let first = count_before(&self.rows, Multiplexor { index, subindex: 0 });
+        self.rows
+            .get(first)
+            .is_some_and(|row| row.multiplexor.index == index)
+    }
+
+    /// The place of the first entry above a multiplexor.
+    pub(super) fn first_above(&self, multiplexor: Multiplexor) -> usize
+        ensures { next_above (table_entries self.now) multiplexor ≡ option_map (λ r. r.multiplexor) (slice_get self.now.rows.items result) }
+    {
+        let first = count_before(&self.rows, multiplexor);
+        match self.rows.get(first) {
+            Some(row) if row.multiplexor == multiplexor => first + 1,
+            _ => first,
+        }
     }
 }

@@ -1,11 +1,9 @@
 //! What a drive answers.
-ghost use Rattle.std.specs.Prelude.{◌≡◌, length, None};
-ghost use Rattle.dictionary.specs.Questions.{copy_refusal, copied_or, overlaid};
 ghost use Rattle.drive.specs.Drives.{drive_entries, drive_lawful};
 
 use crate::drive::Drive;
 use crate::object::Object;
-use dictionary::{Attributes, CopyRefusal, Readable};
+use dictionary::{Attributes, CopyRefusal, Readable, copy_to_front};
 use wire::{AbortCode, Multiplexor};
 
 /// A drive shows its numbers as bytes.
@@ -25,10 +23,10 @@ impl Readable for Drive {
     ) -> Result<usize, CopyRefusal> {
         match Object::at(multiplexor)? {
             Object::ModeOfOperation => {
-                copy(&i8::from(self.mode_of_operation).to_le_bytes(), buffer)
+                copy_to_front(&i8::from(self.mode_of_operation).to_le_bytes(), buffer)
             }
             Object::ProfileAcceleration => {
-                copy(&u32::from(self.profile_acceleration).to_le_bytes(), buffer)
+                copy_to_front(&u32::from(self.profile_acceleration).to_le_bytes(), buffer)
             }
         }
     }
@@ -39,17 +37,4 @@ impl Readable for Drive {
             .map(Object::multiplexor)
             .find(|multiplexor| above < *multiplexor)
     }
-}
-
-/// Copies a value that may be read to the front of a buffer and tells its length; a short buffer stays as it was.
-// The table has these lines too: one function for both would have to be public in the dictionary's crate.
-fn copy(value: &[u8], buffer: &mut [u8]) -> Result<usize, CopyRefusal>
-    ensures answer { result ≡ copied_or (copy_refusal None (length buffer.old) (length value.now)) (length value.now) }
-    ensures after { buffer.new ≡ overlaid (copy_refusal None (length buffer.old) (length value.now)) value.now buffer.old }
-{
-    if buffer.len() < value.len() {
-        return Err(CopyRefusal::ShortBuffer);
-    }
-    buffer[..value.len()].copy_from_slice(value);
-    Ok(value.len())
 }

@@ -1,20 +1,19 @@
 //! What a master does with each of the node's answers, by the answer that it awaits.
 ghost use Rattle.sdo.specs.Answers.{shown_answer};
-ghost use Rattle.wire.specs.FrameData.{value_in};
-ghost use Rattle.wire.specs.Transfers.{shown_transfer};
-ghost use Rattle.master.specs.Steps.{segment_taken, hear_initiate_download, hear_download_segment, hear_initiate_upload, hear_upload_segment, hear_initiate_block, hear_acknowledgement, hear_end, answered};
+ghost use Rattle.sdo.specs.FrameData.{value_in};
+ghost use Rattle.sdo.specs.Transfers.{shown_transfer};
+ghost use Rattle.master.specs.Steps.{hear_initiate_download, hear_download_segment, hear_initiate_upload, hear_upload_segment, hear_initiate_block, hear_acknowledgement, hear_end, answered};
 ghost use Rattle.master.specs.Shown.{Follows};
 
 use super::Master;
 use crate::phase::Awaiting;
-use crate::sending::Hearing;
-use crate::value::is_last;
+use crate::plan::Step;
 use sdo::{Answer, CrcOffer, Segment, Toggle, Transfer};
 use wire::{AbortCode, Multiplexor};
 
 impl Master {
     /// Any answer.
-    pub(crate) fn answer(&mut self, awaiting: Awaiting, answer: Answer) -> Hearing
+    pub(crate) fn answer(&mut self, awaiting: Awaiting, answer: Answer) -> Step
         ensures { Follows (answered self.old awaiting (shown_answer answer)) self.new result }
     {
         match answer {
@@ -42,7 +41,7 @@ impl Master {
     }
 
     /// The answer to the start of a write.
-    fn hear_initiate_download(&mut self, awaiting: Awaiting, multiplexor: Multiplexor) -> Hearing
+    fn hear_initiate_download(&mut self, awaiting: Awaiting, multiplexor: Multiplexor) -> Step
         ensures { Follows (hear_initiate_download self.old awaiting multiplexor) self.new result }
     {
         match awaiting {
@@ -55,7 +54,7 @@ impl Master {
     }
 
     /// The answer to a segment of a write.
-    fn hear_download_segment(&mut self, awaiting: Awaiting, toggle: Toggle) -> Hearing
+    fn hear_download_segment(&mut self, awaiting: Awaiting, toggle: Toggle) -> Step
         ensures { Follows (hear_download_segment self.old awaiting toggle) self.new result }
     {
         match awaiting {
@@ -68,24 +67,13 @@ impl Master {
         }
     }
 
-    /// A segment of a write was taken: the next one goes, and after the last one the transfer has succeeded.
-    fn take_segment(&mut self, toggle: Toggle, number: u16) -> Hearing
-        ensures { Follows (segment_taken self.old toggle number) self.new result }
-    {
-        if is_last(&self.value, number as usize) {
-            self.succeed()
-        } else {
-            self.send_segment(toggle.other(), number + 1)
-        }
-    }
-
     /// The answer to the start of a read.
     fn hear_initiate_upload(
         &mut self,
         awaiting: Awaiting,
         multiplexor: Multiplexor,
         transfer: Transfer,
-    ) -> Hearing
+    ) -> Step
         ensures { Follows (hear_initiate_upload self.old awaiting multiplexor (shown_transfer transfer)) self.new result }
     {
         match awaiting {
@@ -97,7 +85,7 @@ impl Master {
     }
 
     /// A segment of a read.
-    fn hear_upload_segment(&mut self, awaiting: Awaiting, segment: Segment) -> Hearing
+    fn hear_upload_segment(&mut self, awaiting: Awaiting, segment: Segment) -> Step
         ensures { Follows (hear_upload_segment self.old awaiting segment.toggle (value_in segment.bytes) segment.last) self.new result }
     {
         match awaiting {
@@ -117,7 +105,7 @@ impl Master {
         multiplexor: Multiplexor,
         crc: CrcOffer,
         block_size: u8,
-    ) -> Hearing
+    ) -> Step
         ensures { Follows (hear_initiate_block self.old awaiting multiplexor crc block_size) self.new result }
     {
         match awaiting {
@@ -129,7 +117,7 @@ impl Master {
     }
 
     /// The acknowledgement of a sub-block.
-    fn hear_acknowledgement(&mut self, awaiting: Awaiting, last_kept: u8, block_size: u8) -> Hearing
+    fn hear_acknowledgement(&mut self, awaiting: Awaiting, last_kept: u8, block_size: u8) -> Step
         ensures { Follows (hear_acknowledgement self.old awaiting last_kept block_size) self.new result }
     {
         match awaiting {
@@ -141,7 +129,7 @@ impl Master {
     }
 
     /// The answer to the end of a block write.
-    fn hear_end(&mut self, awaiting: Awaiting) -> Hearing
+    fn hear_end(&mut self, awaiting: Awaiting) -> Step
         ensures { Follows (hear_end self.old awaiting) self.new result }
     {
         match awaiting {

@@ -2,44 +2,90 @@
 ghost use Rattle.std.specs.Prelude.{◌≡◌, ◌<◌, ◌≤◌, length, if◌then◌else◌, Ok, Err, nat_le};
 ghost use Rattle.master.specs.declared.refusal.BeginRefusal.TheVariants.{NotExpedited};
 ghost use Rattle.sdo.specs.Requests.{shown_request, InitiateDownload};
-ghost use Rattle.wire.specs.Transfers.{Expedited};
-ghost use Rattle.master.specs.Calls.{Read, Write, start as start_of, write_awaited, free, opened, starting, begin};
-ghost use Rattle.master.specs.Shown.{shown_start, Begins};
+ghost use Rattle.sdo.specs.Transfers.{Expedited};
+ghost use Rattle.master.specs.Calls.{Read, Write, start as start_of, write_awaited, free, opening, starting, begin};
+ghost use Rattle.master.specs.Limits.{most_transfers};
+ghost use Rattle.master.specs.Sendings.{planned, shown_sending};
+ghost use Rattle.master.specs.Shown.{shown_start, shown_begun, Begins};
 
-use super::Master;
+use super::{MOST_TRANSFERS, Master};
+use crate::direction::Direction;
 use crate::method::Method;
 use crate::phase::{Awaiting, Phase};
+use crate::plan::{Batch, Plan};
 use crate::refusal::BeginRefusal;
-use crate::sending::{Batch, Begun, Sending};
-use crate::value::Value;
+use crate::sending::Begun;
 use sdo::{CrcOffer, ExpeditedData, Request, Transfer};
 use wire::{LONGEST, Multiplexor};
 
 impl Master {
+    ghost use Rattle.std.specs.Borrow.{sem};
+    ghost use Rattle.master.specs.Lending.{leaves};
+
+    /// Begins a read, or says why not.
+    #[inline(always)]
+    pub fn begin_read(&mut self, multiplexor: Multiplexor) -> Result<Begun<'_>, BeginRefusal>
+        ensures* state { sem 𝓛 (leaves self.entry (begin self.old multiplexor Read).next) }
+        ensures answer { shown_begun result ≡ (begin self.old multiplexor Read).answer }
+    {
+        let plan = self.start_read(multiplexor)?;
+        Ok(self.lend_start(plan))
+    }
+
+    /// Begins a write of a value, or says why not.
+    #[inline(always)]
+    pub fn begin_write(
+        &mut self,
+        method: Method,
+        multiplexor: Multiplexor,
+        value: &[u8],
+    ) -> Result<Begun<'_>, BeginRefusal>
+        ensures* state { sem 𝓛 (leaves self.entry (begin self.old multiplexor (Write method value.now)).next) }
+        ensures answer { shown_begun result ≡ (begin self.old multiplexor (Write method value.now)).answer }
+    {
+        let plan = self.start_write(method, multiplexor, value)?;
+        Ok(self.lend_start(plan))
+    }
+
+    /// The number of a transfer that was begun, and its start.
+    #[inline(always)]
+    fn lend_start(&self, plan: Plan) -> Begun<'_>
+        ensures number { result.number ≡ self.now.begun }
+        ensures sending { shown_sending result.sending ≡ planned self.now plan }
+    {
+        Begun {
+            number: self.begun,
+            sending: self.lend(plan),
+        }
+    }
+
     /// Begins a read, or says why not.
     #[tactic(auto, unfolding(crate::specs::Calls::begin))]
-    pub fn begin_read(&mut self, multiplexor: Multiplexor) -> Result<Begun, BeginRefusal>
+    fn start_read(&mut self, multiplexor: Multiplexor) -> Result<Plan, BeginRefusal>
         ensures { Begins (begin self.old multiplexor Read) self.new result }
     {
         self.free()?;
-        self.value = Value::new();
+        self.direction = Direction::Upload;
+        self.value.clear();
         let start = Request::InitiateUpload { multiplexor };
         Ok(self.open(multiplexor, Awaiting::InitiateUpload, start))
     }
 
     /// Begins a write of a value, or says why not.
     #[tactic(auto, unfolding(crate::specs::Calls::begin))]
-    pub fn begin_write(
+    fn start_write(
         &mut self,
         method: Method,
         multiplexor: Multiplexor,
         value: &[u8],
-    ) -> Result<Begun, BeginRefusal>
+    ) -> Result<Plan, BeginRefusal>
         ensures { Begins (begin self.old multiplexor (Write method value.now)) self.new result }
     {
         self.free()?;
         let start = write_start(method, multiplexor, value)?;
-        self.value = Value::try_from(value).unwrap();
+        self.direction = Direction::Download;
+        self.value.clear();
+        self.value.try_extend_from_slice(value).unwrap();
         Ok(self.open(multiplexor, write_awaited(method), start))
     }
 
@@ -50,27 +96,25 @@ impl Master {
         match self.phase {
             Phase::Open(_) | Phase::Over(_) => Err(BeginRefusal::NotCleared),
             Phase::Idle if self.rest > 0 => Err(BeginRefusal::Resting),
-            Phase::Idle if self.begun == u16::MAX => Err(BeginRefusal::AllBegun),
+            Phase::Idle if self.begun == MOST_TRANSFERS => Err(BeginRefusal::AllBegun),
             Phase::Idle => Ok(()),
         }
     }
 
     /// Opens the next transfer by its start.
-    fn open(&mut self, multiplexor: Multiplexor, awaiting: Awaiting, start: Request) -> Begun
-        requires { self.old.begun < 65535 }
-        ensures { Begins (record { next = opened self.old multiplexor awaiting self.old.value; answer = Ok (starting self.old (shown_request start)) }) self.new (Ok result) }
+    #[inline(always)]
+    fn open(&mut self, multiplexor: Multiplexor, awaiting: Awaiting, start: Request) -> Plan
+        requires { self.old.begun < most_transfers }
+        ensures { Begins (record { next = opening self.old multiplexor awaiting; answer = Ok (starting self.old (shown_request start)) }) self.new (Ok result) }
     {
         self.begun += 1;
         self.phase = Phase::Open(awaiting);
         self.multiplexor = multiplexor;
         self.highest = 0;
         self.ticks = 0;
-        Begun {
-            number: self.begun,
-            sending: Sending {
-                quiet: true,
-                batch: Batch::Message(start),
-            },
+        Plan {
+            quiet: true,
+            batch: Batch::One(start.to_frame(self.node)),
         }
     }
 }

@@ -5,7 +5,7 @@ ghost use Rattle.master.specs.Shown.{Follows};
 
 use super::Master;
 use crate::phase::{Awaiting, SubBlock};
-use crate::sending::{Batch, Hearing};
+use crate::plan::{Batch, Step};
 use crate::value::{closing_crc, segments, unused};
 use sdo::{BlockSize, CrcOffer, Request};
 use wire::AbortCode;
@@ -15,12 +15,7 @@ const SHORT_SUB_BLOCKS: u8 = 8;
 
 impl Master {
     /// The node takes a block write: its block size is judged.
-    pub(crate) fn start_blocks(
-        &mut self,
-        awaiting: Awaiting,
-        crc: CrcOffer,
-        block_size: u8,
-    ) -> Hearing
+    pub(crate) fn start_blocks(&mut self, awaiting: Awaiting, crc: CrcOffer, block_size: u8) -> Step
         ensures { Follows (block_started self.old awaiting crc block_size) self.new result }
     {
         match BlockSize::new(block_size) {
@@ -30,12 +25,7 @@ impl Master {
     }
 
     /// The node acknowledges a sub-block: the size of the next one is judged first.
-    pub(crate) fn acknowledge(
-        &mut self,
-        sub_block: SubBlock,
-        last_kept: u8,
-        block_size: u8,
-    ) -> Hearing
+    pub(crate) fn acknowledge(&mut self, sub_block: SubBlock, last_kept: u8, block_size: u8) -> Step
         ensures { Follows (acknowledge self.old sub_block last_kept block_size) self.new result }
     {
         match BlockSize::new(block_size) {
@@ -48,7 +38,7 @@ impl Master {
     }
 
     /// The node has kept a sub-block up to a segment.
-    fn keep(&mut self, sub_block: SubBlock, last_kept: u8, size: BlockSize) -> Hearing
+    fn keep(&mut self, sub_block: SubBlock, last_kept: u8, size: BlockSize) -> Step
         ensures { Follows (kept self.old sub_block last_kept size.number) self.new result }
     {
         let acknowledged = sub_block.acknowledged as usize + last_kept as usize;
@@ -70,7 +60,7 @@ impl Master {
     }
 
     /// The next sub-block is sent, or the end after the last one.
-    fn go_on(&mut self, crc: CrcOffer, size: BlockSize, acknowledged: usize, short: u8) -> Hearing
+    fn go_on(&mut self, crc: CrcOffer, size: BlockSize, acknowledged: usize, short: u8) -> Step
         ensures { Follows (go_on self.old crc size.number acknowledged short) self.new result }
     {
         let segments = segments(&self.value);
@@ -88,7 +78,7 @@ impl Master {
     }
 
     /// A sub-block is sent.
-    fn send_sub_block(&mut self, sub_block: SubBlock) -> Hearing
+    fn send_sub_block(&mut self, sub_block: SubBlock) -> Step
         requires { (sub_block.acknowledged ≤ 147) × ((1 ≤ sub_block.count) × (sub_block.count ≤ 127)) }
         ensures { Follows (send_sub_block self.old sub_block.crc sub_block.acknowledged sub_block.count sub_block.short) self.new result }
     {
@@ -106,7 +96,7 @@ impl Master {
     }
 
     /// The end of a block write is sent.
-    fn send_end(&mut self, crc: CrcOffer) -> Hearing
+    fn send_end(&mut self, crc: CrcOffer) -> Step
         ensures { Follows (send_end self.old crc) self.new result }
     {
         let request = Request::EndBlockDownload {
@@ -116,7 +106,7 @@ impl Master {
         self.send(
             Awaiting::EndBlockDownload,
             self.highest,
-            Batch::Message(request),
+            Batch::One(request.to_frame(self.node)),
         )
     }
 }

@@ -1,58 +1,49 @@
 //! How a transfer ends: by success, by an abort that is sent, or by one that was heard (CiA 301, 7.2.4.3.17).
 ghost use Rattle.std.specs.Prelude.{◌≡◌};
 ghost use Rattle.master.specs.Calls.{Parting};
-ghost use Rattle.master.specs.Steps.{may_have_set, failed, abandoned, parting, found, told, done, unmoved};
+ghost use Rattle.master.specs.Steps.{may_have_set, failed, abandoned, parting, found, abort_heard, done};
 ghost use Rattle.master.specs.Shown.{Follows, Parts};
 
-use super::Master;
+use super::{Master, REST};
 use crate::heard::Heard;
-use crate::phase::{Awaiting, Failure, Finder, Phase};
-use crate::sending::{Batch, Hearing, Sending};
+use crate::phase::{Aborted, Awaiting, Finder, Phase};
+use crate::plan::{Batch, Plan, SILENCE, Step};
 use crate::value::is_last;
 use sdo::Request;
 use wire::AbortCode;
 
-/// The number of ticks that a master rests after a failure.
-const REST: u8 = 30;
-
-/// Nothing is done on the line.
-pub(crate) const SILENCE: Sending = Sending {
-    quiet: false,
-    batch: Batch::Nothing,
-};
-
 impl Master {
     /// The transfer has succeeded.
-    pub(crate) fn succeed(&mut self) -> Hearing
+    pub(crate) fn succeed(&mut self) -> Step
         ensures { Follows (done self.old self.old.value) self.new result }
     {
         self.phase = Phase::Over(Ok(()));
-        Hearing {
+        Step {
             heard: Heard::Over,
-            sending: SILENCE,
+            plan: SILENCE,
         }
     }
 
     /// The master has found a reason to end the transfer.
     #[tactic(auto, unfolding(crate::specs::Steps::found))]
-    pub(crate) fn find(&mut self, awaiting: Awaiting, code: AbortCode) -> Hearing
+    pub(crate) fn find(&mut self, awaiting: Awaiting, code: AbortCode) -> Step
         ensures { Follows (found self.old awaiting code) self.new result }
     {
-        Hearing {
+        Step {
             heard: Heard::Over,
-            sending: self.abandon(awaiting, code),
+            plan: self.abandon(awaiting, code),
         }
     }
 
     /// The node has ended the transfer.
-    #[tactic(auto, unfolding(crate::specs::Steps::told))]
-    pub(crate) fn end_by_node(&mut self, code: AbortCode) -> Hearing
-        ensures { Follows (told self.old code) self.new result }
+    #[tactic(auto, unfolding(crate::specs::Steps::abort_heard))]
+    pub(crate) fn end_by_node(&mut self, code: AbortCode) -> Step
+        ensures { Follows (abort_heard self.old code) self.new result }
     {
         self.fail(code, Finder::Node, false);
-        Hearing {
+        Step {
             heard: Heard::Over,
-            sending: Sending {
+            plan: Plan {
                 quiet: true,
                 batch: Batch::Nothing,
             },
@@ -61,17 +52,18 @@ impl Master {
 
     /// Ends the open transfer by an abort.
     #[tactic(auto, unfolding(crate::specs::Steps::parting))]
-    pub(crate) fn abandon(&mut self, awaiting: Awaiting, code: AbortCode) -> Sending
+    pub(crate) fn abandon(&mut self, awaiting: Awaiting, code: AbortCode) -> Plan
         ensures { Parts (record { next = abandoned awaiting code self.old; sending = parting code self.old }) self.new result }
     {
         let may_be_set = self.may_be_set(awaiting);
         self.fail(code, Finder::Master, may_be_set);
-        Sending {
+        let abort = Request::Abort {
+            multiplexor: self.multiplexor,
+            code,
+        };
+        Plan {
             quiet: true,
-            batch: Batch::Message(Request::Abort {
-                multiplexor: self.multiplexor,
-                code,
-            }),
+            batch: Batch::One(abort.to_frame(self.node)),
         }
     }
 
@@ -79,7 +71,7 @@ impl Master {
     fn fail(&mut self, code: AbortCode, finder: Finder, may_be_set: bool)
         ensures { self.new ≡ failed code finder may_be_set self.old }
     {
-        self.phase = Phase::Over(Err(Failure {
+        self.phase = Phase::Over(Err(Aborted {
             code,
             finder,
             may_be_set,
@@ -96,16 +88,6 @@ impl Master {
             Awaiting::ExpeditedDownload | Awaiting::EndBlockDownload => true,
             Awaiting::DownloadSegment { number, .. } => is_last(&self.value, number as usize),
             _ => false,
-        }
-    }
-
-    /// Nothing has changed.
-    pub(crate) fn stay(&mut self, heard: Heard) -> Hearing
-        ensures { Follows (unmoved self.old heard) self.new result }
-    {
-        Hearing {
-            heard,
-            sending: SILENCE,
         }
     }
 }

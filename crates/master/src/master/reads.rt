@@ -1,27 +1,27 @@
 //! Reads: the answer to the start, and segment after segment (CiA 301, 7.2.4.3: SDO upload and SDO upload segment).
 ghost use Rattle.std.specs.Prelude.{◌≡◌, ◌≤◌, ◌++◌, length};
-ghost use Rattle.wire.specs.FrameData.{value_in};
-ghost use Rattle.wire.specs.Transfers.{shown_transfer, Segmented};
+ghost use Rattle.sdo.specs.FrameData.{value_in};
+ghost use Rattle.sdo.specs.Transfers.{shown_transfer, Segmented};
 ghost use Rattle.master.specs.declared.phase.Awaiting.TheVariants.{UploadSegment};
 ghost use Rattle.master.specs.Values.{may_come};
 ghost use Rattle.master.specs.Steps.{ask_segment, upload_started, read_whole, read_on};
 ghost use Rattle.master.specs.Shown.{Follows};
 
-use super::Master;
+use super::{Master, SEGMENT_CAP};
 use crate::phase::Awaiting;
-use crate::sending::{Batch, Hearing};
-use crate::value::Value;
+use crate::plan::{Batch, Step};
 use sdo::{Request, Segment, SegmentData, Toggle, Transfer, differs};
 use wire::{AbortCode, LONGEST};
 
 impl Master {
     /// The node gives the value, or announces it.
-    pub(crate) fn start_reading(&mut self, awaiting: Awaiting, transfer: Transfer) -> Hearing
+    pub(crate) fn start_reading(&mut self, awaiting: Awaiting, transfer: Transfer) -> Step
         ensures { Follows (upload_started self.old awaiting (shown_transfer transfer)) self.new result }
     {
         match transfer {
             Transfer::Expedited { data } => {
-                self.value = Value::try_from(data.value()).unwrap();
+                self.value.clear();
+                self.value.try_extend_from_slice(data.value()).unwrap();
                 self.succeed()
             }
             Transfer::Segmented { size } => self.start_segments(awaiting, size),
@@ -29,11 +29,11 @@ impl Master {
     }
 
     /// The value comes in segments.
-    fn start_segments(&mut self, awaiting: Awaiting, size: Option<u32>) -> Hearing
+    fn start_segments(&mut self, awaiting: Awaiting, size: Option<u32>) -> Step
         ensures { Follows (upload_started self.old awaiting (Segmented size)) self.new result }
     {
         if may_come(size) {
-            self.value = Value::new();
+            self.value.clear();
             self.ask_segment(Toggle::Zero, size)
         } else {
             self.find(awaiting, AbortCode::OutOfMemory)
@@ -41,7 +41,7 @@ impl Master {
     }
 
     /// One more segment of the value is there.
-    pub(crate) fn read_on(&mut self, size: Option<u32>, segment: Segment) -> Hearing
+    pub(crate) fn read_on(&mut self, size: Option<u32>, segment: Segment) -> Step
         ensures { Follows (read_on self.old (UploadSegment segment.toggle size) segment.toggle size segment.last (self.old.value ++ value_in segment.bytes)) self.new result }
     {
         let toggle = segment.toggle;
@@ -59,7 +59,7 @@ impl Master {
     }
 
     /// The last segment of the value is there.
-    fn read_whole(&mut self, awaiting: Awaiting, size: Option<u32>, bytes: SegmentData) -> Hearing
+    fn read_whole(&mut self, awaiting: Awaiting, size: Option<u32>, bytes: SegmentData) -> Step
         requires { length (self.old.value ++ value_in bytes) ≤ 1024 }
         ensures { Follows (read_whole self.old awaiting size (self.old.value ++ value_in bytes)) self.new result }
     {
@@ -75,14 +75,14 @@ impl Master {
     }
 
     /// One more segment is asked for.
-    fn ask_segment(&mut self, toggle: Toggle, size: Option<u32>) -> Hearing
+    fn ask_segment(&mut self, toggle: Toggle, size: Option<u32>) -> Step
         ensures { Follows (ask_segment self.old toggle size self.old.value) self.new result }
     {
-        let highest = self.highest.saturating_add(1);
+        let highest = self.highest.min(SEGMENT_CAP - 1) + 1;
         self.send(
             Awaiting::UploadSegment { toggle, size },
             highest,
-            Batch::Message(Request::UploadSegment { toggle }),
+            Batch::One(Request::UploadSegment { toggle }.to_frame(self.node)),
         )
     }
 }

@@ -3,10 +3,10 @@ ghost use Rattle.std.specs.Prelude.{◌≡◌, ◌+◌, ◌-◌, ◌≤◌, [], 
 ghost use Rattle.dictionary.specs.Commits.{decided};
 ghost use Rattle.dictionary.specs.Questions.{value_at};
 ghost use Rattle.dictionary.specs.Verdicts.{read_verdict};
-ghost use Rattle.node.specs.Buffers.{full, code_of};
+ghost use Rattle.node.specs.Buffers.{full};
 
 use super::{Buffer, ROOM};
-use dictionary::{CopyRefusal, Readable};
+use dictionary::Readable;
 use wire::{AbortCode, Multiplexor};
 
 impl Buffer {
@@ -28,7 +28,6 @@ impl Buffer {
     }
 
     /// The bytes that are held behind the first few.
-    // The bound stands in the clause, since a caller sees the list and not the array.
     pub(crate) fn rest(&self, given: usize) -> &[u8]
         ensures value { result.now ≡ drop given self.now }
         ensures bound { length self.now ≤ 1029 }
@@ -72,15 +71,6 @@ impl Buffer {
         self.len = end;
     }
 
-    /// Holds some bytes and nothing else.
-    pub(crate) fn hold(&mut self, bytes: &[u8])
-        requires { length bytes.now ≤ 1029 }
-        ensures { self.new ≡ bytes.now }
-    {
-        self.clear();
-        self.append(bytes);
-    }
-
     /// Holds some bytes fewer: the last ones are let go.
     pub(crate) fn shorten(&mut self, unused: usize)
         ensures { self.new ≡ take (length self.old - unused) self.old }
@@ -97,20 +87,7 @@ impl Buffer {
         ensures answer { result ≡ decided (read_verdict (D.Readable.meaning dictionary.now) multiplexor) }
         ensures after { read_verdict (D.Readable.meaning dictionary.now) multiplexor ≡ None → self.new ≡ value_at (D.Readable.meaning dictionary.now) multiplexor }
     {
-        let len = dictionary
-            .copy_value(multiplexor, &mut self.bytes)
-            .map_err(code)?;
-        self.len = len;
+        self.len = dictionary.copy_value(multiplexor, &mut self.bytes)?;
         Ok(())
-    }
-}
-
-/// The abort code of a refused copy.
-fn code(refusal: CopyRefusal) -> AbortCode
-    ensures { result ≡ code_of refusal }
-{
-    match refusal {
-        CopyRefusal::Verdict(code) => code,
-        CopyRefusal::ShortBuffer => AbortCode::OutOfMemory,
     }
 }

@@ -7,13 +7,13 @@ ghost use Rattle.node.specs.States.{BlockDownload as BlockReceived, next_sub_blo
 ghost use Rattle.node.specs.Steps.{answered, dropped, block_awaited, start_block, ends as ends_at, keep as keep-step, pass_over, spoil as spoil-step, block_segment, asked_in_block, crc_differs, closed, block_end};
 
 use super::Node;
+use crate::activity::Activity;
 use crate::block_segment::BlockSegment;
 use crate::block_start::BlockStart;
 use crate::download_start::DownloadStart;
 use crate::reaction::Reaction;
 use crate::reception::Reception;
 use crate::served::Served;
-use crate::transfer::Transfer;
 use crc::checksum;
 use dictionary::{Readable, Writable, check_start};
 use sdo::{Answer, BlockRequest, CrcOffer, UnusedBytes};
@@ -84,7 +84,7 @@ impl Node {
             block_size: self.block_size.number(),
         };
         if segment.last {
-            return self.send(Transfer::BlockEnd { start }, Served::Answered, answer);
+            return self.send(Activity::BlockEnd { start }, Served::Answered, answer);
         }
         if number == self.block_size.number() {
             return self.next_sub_block(start, answer);
@@ -94,7 +94,7 @@ impl Node {
             expected: number + 1,
             spoiled: false,
         };
-        self.go_on(Transfer::BlockDownload { reception }, Served::Kept)
+        self.go_on(Activity::BlockDownload { reception }, Served::Kept)
     }
 
     /// Another segment is dropped: at the end of a sub-block the last number that was kept is acknowledged.
@@ -132,11 +132,12 @@ impl Node {
     fn drop_segment(&mut self, reception: Reception) -> Reaction
         ensures { Turns (dropped (BlockReceived reception self.old.buffer)) self.old self.new result }
     {
-        let next = Transfer::BlockDownload { reception };
+        let next = Activity::BlockDownload { reception };
         self.go_on(next, Served::Dropped)
     }
 
     /// Answers, and awaits the first segment of a sub-block.
+    #[inline(always)]
     fn next_sub_block(&mut self, start: BlockStart, answer: Answer) -> Reaction
         ensures { Turns (answered (BlockReceived (next_sub_block start) self.old.buffer) (shown_answer answer)) self.old self.new result }
     {
@@ -146,7 +147,7 @@ impl Node {
             spoiled: false,
         };
         self.send(
-            Transfer::BlockDownload { reception },
+            Activity::BlockDownload { reception },
             Served::Answered,
             answer,
         )
@@ -166,9 +167,9 @@ impl Node {
         unused: UnusedBytes,
         crc: u16,
     ) -> Reaction
-        ensures { Does D.Readable.meaning (λ d. block_end d (shown self.old).transfer unused.number crc) self.old self.new dictionary.old dictionary.new result }
+        ensures { Does D.Readable.meaning (λ d. block_end d (shown self.old).activity unused.number crc) self.old self.new dictionary.old dictionary.new result }
     {
-        let Transfer::BlockEnd { start } = self.transfer else {
+        let Activity::BlockEnd { start } = self.activity else {
             return self.unexpected();
         };
         self.buffer.shorten(unused.number() as usize);

@@ -4,10 +4,10 @@ ghost use Rattle.node.specs.Nodes.{Turns, shown};
 ghost use Rattle.node.specs.Steps.{announced, given as given-step, start_upload, next_segment, upload_segment};
 
 use super::Node;
+use crate::activity::Activity;
 use crate::delivery::Delivery;
 use crate::reaction::Reaction;
 use crate::served::Served;
-use crate::transfer::Transfer;
 use dictionary::Readable;
 use sdo::{Answer, ExpeditedData, Segment, SegmentData, Toggle};
 use wire::{AbortCode, Multiplexor};
@@ -34,7 +34,7 @@ impl Node {
     {
         match ExpeditedData::new(self.buffer.held()) {
             Some(data) => self.send(
-                Transfer::Idle,
+                Activity::Idle,
                 Served::Answered,
                 Answer::InitiateUpload {
                     multiplexor,
@@ -51,7 +51,7 @@ impl Node {
     {
         let size = Some(self.buffer.len() as u32);
         self.send(
-            Transfer::Upload {
+            Activity::Upload {
                 delivery: Delivery {
                     multiplexor,
                     toggle: Toggle::Zero,
@@ -68,9 +68,9 @@ impl Node {
 
     /// A segment of a read is asked for: its toggle is judged, then the segment is given.
     pub(super) fn upload_segment(&mut self, toggle: Toggle) -> Reaction
-        ensures { Turns (upload_segment (shown self.old).transfer toggle) self.old self.new result }
+        ensures { Turns (upload_segment (shown self.old).activity toggle) self.old self.new result }
     {
-        let Transfer::Upload { delivery } = self.transfer else {
+        let Activity::Upload { delivery } = self.activity else {
             return self.unexpected();
         };
         if toggle != delivery.toggle {
@@ -93,9 +93,9 @@ impl Node {
                 bytes,
                 last: true,
             });
-            return self.send(Transfer::Idle, Served::Answered, segment);
+            return self.send(Activity::Idle, Served::Answered, segment);
         }
-        let next = Transfer::Upload {
+        let next = Activity::Upload {
             delivery: Delivery {
                 multiplexor: delivery.multiplexor,
                 toggle: toggle.other(),

@@ -2,20 +2,21 @@
 ghost use Rattle.std.specs.Option.{option_map};
 ghost use Rattle.sdo.specs.Requests.{shown_request};
 ghost use Rattle.node.specs.Nodes.{Turns, Does, Serves, shown};
-ghost use Rattle.node.specs.Steps.{aborted as aborted-step, asked as asked-step, understood as understood-step, heard, taken as taken-step};
+ghost use Rattle.node.specs.Steps.{aborted as aborted-step, asked as asked-step, understood as understood-step, interpreted, taken as taken-step};
 
 use super::Node;
+use crate::activity::Activity;
 use crate::block_start::BlockStart;
 use crate::download_start::DownloadStart;
 use crate::reaction::Reaction;
 use crate::served::Served;
-use crate::transfer::Transfer;
 use dictionary::Writable;
 use sdo::{BlockRequest, Request};
 use wire::{Frame, Identifier};
 
 impl Node {
     /// Serves a frame that was taken from the line, or none where none waited, over the node's dictionary.
+    #[inline(always)]
     #[tactic(auto, using(crate::proofs::Turning::serving), unfolding(crate::specs::Steps::step))]
     pub fn serve<D: Writable>(&mut self, dictionary: &mut D, taken: Option<Frame>) -> Reaction
         ensures { Serves D.Readable.meaning taken self.old self.new dictionary.old dictionary.new result }
@@ -36,14 +37,14 @@ impl Node {
         if frame.identifier != Identifier::of_requests(self.number) {
             return self.ignore();
         }
-        self.hear(dictionary, frame.bytes)
+        self.interpret(dictionary, frame.bytes)
     }
 
     /// Reads a frame's bytes: one way while block segments come in, another elsewhere.
-    fn hear<D: Writable>(&mut self, dictionary: &mut D, bytes: [u8; 8]) -> Reaction
-        ensures { Does D.Readable.meaning (λ d. heard d self.old.block_size.number (shown self.old).transfer bytes) self.old self.new dictionary.old dictionary.new result }
+    fn interpret<D: Writable>(&mut self, dictionary: &mut D, bytes: [u8; 8]) -> Reaction
+        ensures { Does D.Readable.meaning (λ d. interpreted d self.old.block_size.number (shown self.old).activity bytes) self.old self.new dictionary.old dictionary.new result }
     {
-        if let Transfer::BlockDownload { reception } = self.transfer {
+        if let Activity::BlockDownload { reception } = self.activity {
             return self.asked_in_block(reception, BlockRequest::from_bytes(bytes));
         }
         self.understood(dictionary, Request::from_bytes(bytes))
@@ -51,7 +52,7 @@ impl Node {
 
     /// A request in any state but while block segments come in, or none that is known.
     fn understood<D: Writable>(&mut self, dictionary: &mut D, request: Option<Request>) -> Reaction
-        ensures { Does D.Readable.meaning (λ d. understood-step d self.old.block_size.number (shown self.old).transfer (option_map shown_request request)) self.old self.new dictionary.old dictionary.new result }
+        ensures { Does D.Readable.meaning (λ d. understood-step d self.old.block_size.number (shown self.old).activity (option_map shown_request request)) self.old self.new dictionary.old dictionary.new result }
     {
         match request {
             Some(request) => self.asked(dictionary, request),
@@ -61,7 +62,7 @@ impl Node {
 
     /// A request in any state but while block segments come in: a start replaces a transfer.
     fn asked<D: Writable>(&mut self, dictionary: &mut D, request: Request) -> Reaction
-        ensures { Does D.Readable.meaning (λ d. asked-step d self.old.block_size.number (shown self.old).transfer (shown_request request)) self.old self.new dictionary.old dictionary.new result }
+        ensures { Does D.Readable.meaning (λ d. asked-step d self.old.block_size.number (shown self.old).activity (shown_request request)) self.old self.new dictionary.old dictionary.new result }
     {
         match request {
             Request::InitiateDownload {
@@ -89,7 +90,7 @@ impl Node {
 
     /// An abort ends a transfer; without one it is dropped.
     fn aborted(&mut self) -> Reaction
-        ensures { Turns (aborted-step (shown self.old).transfer) self.old self.new result }
+        ensures { Turns (aborted-step (shown self.old).activity) self.old self.new result }
     {
         if self.is_idle() {
             self.ignore()

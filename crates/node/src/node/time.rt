@@ -7,7 +7,7 @@ ghost use Rattle.node.specs.Nodes.{Ticks, shown, timed_out};
 ghost use Rattle.node.specs.States.{named as named-by};
 
 use super::Node;
-use crate::transfer::Transfer;
+use crate::activity::Activity;
 use sdo::Answer;
 use wire::{AbortCode, Frame};
 
@@ -32,14 +32,14 @@ impl Node {
 
     /// Ends the transfer by an abort.
     fn time_out(&mut self) -> Frame
-        ensures answer { result ≡ answer_frame self.old.number (Abort (named-by (shown self.old).transfer) TimedOut) }
+        ensures answer { result ≡ answer_frame self.old.number (Abort (named-by (shown self.old).activity) TimedOut) }
         ensures node { shown self.new ≡ (timed_out (shown self.old)).next }
     {
         let abort = Answer::Abort {
             multiplexor: self.named(),
             code: AbortCode::TimedOut,
         };
-        self.transfer = Transfer::Idle;
+        self.activity = Activity::Idle;
         self.ticks = 0;
         abort.to_frame(self.number)
     }

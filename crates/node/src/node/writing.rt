@@ -1,16 +1,16 @@
 //! Writes: at once or in segments (CiA 301, 7.2.4.3.3 and 7.2.4.3.4: SDO download initiate and segment).
 ghost use Rattle.std.specs.Prelude.{◌≡◌, ◌++◌};
 ghost use Rattle.sdo.specs.Answers.{shown_answer};
-ghost use Rattle.wire.specs.FrameData.{value_in};
-ghost use Rattle.wire.specs.Transfers.{Segmented, shown_transfer as shown-coming};
+ghost use Rattle.sdo.specs.FrameData.{value_in};
+ghost use Rattle.sdo.specs.Transfers.{Segmented, shown_transfer as shown-coming};
 ghost use Rattle.node.specs.Nodes.{Turns, Does, shown};
 ghost use Rattle.node.specs.Steps.{start_download, completed, received, download_segment};
 
 use super::Node;
+use crate::activity::Activity;
 use crate::download_start::DownloadStart;
 use crate::reaction::Reaction;
 use crate::served::Served;
-use crate::transfer::Transfer;
 use dictionary::{Readable, Writable, check_start};
 use sdo::{Answer, Segment, Toggle, differs};
 use wire::{AbortCode, LONGEST, Multiplexor};
@@ -27,10 +27,10 @@ impl Node {
     {
         match transfer {
             sdo::Transfer::Expedited { data } => {
-                self.buffer.hold(data.value());
-                self.commit(
-                    dictionary,
+                let outcome = dictionary.commit(multiplexor, data.value());
+                self.conclude(
                     multiplexor,
+                    outcome,
                     Answer::InitiateDownload { multiplexor },
                 )
             }
@@ -48,7 +48,7 @@ impl Node {
             return self.refuse(start.multiplexor, code);
         }
         self.buffer.clear();
-        let next = Transfer::Download {
+        let next = Activity::Download {
             start,
             toggle: Toggle::Zero,
         };
@@ -64,9 +64,9 @@ impl Node {
         dictionary: &mut D,
         segment: Segment,
     ) -> Reaction
-        ensures { Does D.Readable.meaning (λ d. download_segment d (shown self.old).transfer segment.toggle (value_in segment.bytes) segment.last) self.old self.new dictionary.old dictionary.new result }
+        ensures { Does D.Readable.meaning (λ d. download_segment d (shown self.old).activity segment.toggle (value_in segment.bytes) segment.last) self.old self.new dictionary.old dictionary.new result }
     {
-        let Transfer::Download { start, toggle } = self.transfer else {
+        let Activity::Download { start, toggle } = self.activity else {
             return self.unexpected();
         };
         if segment.toggle != toggle {
@@ -89,18 +89,21 @@ impl Node {
             return self.refuse(start.multiplexor, AbortCode::LengthTooHigh);
         }
         self.buffer.append(segment.bytes.value());
-        let answer = Answer::DownloadSegment { toggle };
         if segment.last {
-            return self.complete(dictionary, start, answer);
+            return self.complete(dictionary, start, Answer::DownloadSegment { toggle });
         }
-        let next = Transfer::Download {
-            start,
-            toggle: toggle.other(),
-        };
-        self.send(next, Served::Answered, answer)
+        self.send(
+            Activity::Download {
+                start,
+                toggle: toggle.other(),
+            },
+            Served::Answered,
+            Answer::DownloadSegment { toggle },
+        )
     }
 
     /// All bytes of a write are in the buffer: their number is compared with an announced size, then they are committed.
+    #[inline(always)]
     pub(super) fn complete<D: Writable>(
         &mut self,
         dictionary: &mut D,
@@ -112,6 +115,7 @@ impl Node {
         if differs(start.size, self.buffer.len()) {
             return self.refuse(start.multiplexor, AbortCode::LengthMismatch);
         }
-        self.commit(dictionary, start.multiplexor, answer)
+        let outcome = dictionary.commit(start.multiplexor, self.buffer.held());
+        self.conclude(start.multiplexor, outcome, answer)
     }
 }

@@ -1,4 +1,4 @@
-use Rattle.node.proofs.AnswerLaws.{foreign_dropped, starts_replace, aborts_heard, others_refused, unknown_refused, block_aborted, block_stays}
+use Rattle.node.proofs.AnswerLaws.{foreign_dropped, starts_replace, aborts_end, others_refused, unknown_refused, block_aborted, block_stays}
 use Rattle.node.proofs.CommitLaws.{aborts_leave_idle}
 use Rattle.node.proofs.laws.answer_laws.Goals as goal
 
@@ -8,7 +8,7 @@ returns c =
       aborts_leave_idle = aborts_leave_idle;
       foreign_dropped = foreign_dropped;
       starts_replace = starts_replace;
-      aborts_heard = aborts_heard;
+      aborts_end = aborts_end;
       others_refused = others_refused;
       unknown_refused = unknown_refused;
       block_aborted = block_aborted;

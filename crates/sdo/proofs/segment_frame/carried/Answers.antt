@@ -1,5 +1,5 @@
 use Rattle.std.proofs.Common.{rules, ◌≡◌, length, drop, ◌/◌, ◌%◌, ◌∙◌}
-use Rattle.wire.specs.Fields.{b}
+use Rattle.sdo.specs.Fields.{b}
 use Rattle.sdo.proofs.Spelling.{from_the_first, front_of_a_front}
 use Rattle.sdo.proofs.segment_frame.carried.Goals as goal
 

@@ -1,7 +1,7 @@
 use Rattle.std.proofs.Common.{ap}
 use Rattle.std.proofs.lemmas.Bool.Decides.{Decides-eqb, Decides-like}
 use Rattle.wire.proofs.Identifiers.{same_identifier}
-use Rattle.wire.proofs.Sameness.{same_frames, same_transfers}
+use Rattle.wire.proofs.Sameness.{same_frames, same_codes}
 use Rattle.wire.proofs.equality.equal_frames.Goals as goal
 
 pub returns-clause-nodes : goal.returns-clause-nodes
@@ -13,5 +13,5 @@ returns-clause-identifiers c = λ a b. Decides-like _ (same_identifier a b) (λ 
 pub returns-clause-frames : goal.returns-clause-frames
 returns-clause-frames c = same_frames
 
-pub returns-clause-transfers : goal.returns-clause-transfers
-returns-clause-transfers c = same_transfers
+pub returns-clause-codes : goal.returns-clause-codes
+returns-clause-codes c = same_codes

@@ -1,7 +1,7 @@
 use Rattle.std.specs.Prelude.{MatchOption, MatchResult}
 use Rattle.std.specs.Result.{IsErrAnd}
 use Rattle.std.proofs.Common.{◌≡◌, ℕ, Some, None, Ok, Err, Option, Result, sym, arith, ap, ◌∙◌, rules}
-use Rattle.search.proofs.Ordering.{answers_by, by_fields}
+use Rattle.search.proofs.Ordering.{answers_by}
 use Rattle.wire.specs.declared.multiplexor.Multiplexor.{Multiplexor}
 use Rattle.wire.specs.declared.abort_code.AbortCode.{AbortCode}
 use Rattle.dictionary.specs.declared.table.Table.{Table}
@@ -9,6 +9,7 @@ use Rattle.dictionary.specs.Places.{place_at}
 use Rattle.dictionary.specs.Questions.{absence}
 use Rattle.dictionary.specs.Tables.{table_entries, Stands, Absent}
 use Rattle.dictionary.proofs.Finding.{table_place}
+use Rattle.wire.proofs.Multiplexors.{by_fields}
 use Rattle.dictionary.proofs.Presence.{absent_from}
 use Rattle.dictionary.proofs.TableFacts.{stands}
 use Rattle.dictionary.proofs.table.Table.find.Goals as goal

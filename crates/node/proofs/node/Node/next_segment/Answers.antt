@@ -1,6 +1,6 @@
 use Rattle.std.proofs.Common.{◌+◌, ◌<◌, ◌≤◌, true, false, length, take, drop, sym, ap, ◌∙◌, arith, length-drop, drop-drop}
 use Rattle.sdo.specs.Answers as answer
-use Rattle.wire.specs.FrameData.{value_in}
+use Rattle.sdo.specs.FrameData.{value_in}
 use Rattle.sdo.specs.Segments.{other}
 use Rattle.node.specs.States.{Idle, Upload}
 use Rattle.node.specs.Steps.{answered}

@@ -1,0 +1,4 @@
+pub mod States
+pub mod Lines
+pub mod Calls
+pub mod Cases

@@ -1,7 +1,0 @@
-//! Cases byte for byte.
-ghost use Rattle.law.specs.Cases.{SampleCases};
-
-/// States what a new bench with the sample dictionary does in some cases that can be worked out by hand.
-pub fn sample_cases()
-    ensures { SampleCases }
-{}

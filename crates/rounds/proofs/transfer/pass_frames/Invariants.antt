@@ -1,0 +1,9 @@
+use Rattle.std.proofs.Common.{◌≡◌}
+use Rattle.rounds.specs.Rounds.{Goes, Went}
+use Rattle.rounds.proofs.transfer.pass_frames.Given as goal
+
+abbrev pub invariant-loop : goal.invariant-loop
+invariant-loop g l = record {
+  went : Went (Goes l.counter) (g.B.Steppable.state l.initial.session.bench) (g.B.Steppable.state l.session.bench);
+  ticket : l.session.held ≡ l.initial.session.held;
+}
