@@ -55,6 +55,13 @@ impl<B: Steppable> Session<B> {
         &self.bench
     }
 
+    /// The number of the ticket that is held, if one is.
+    pub fn ticket(&self) -> Option<u16>
+        ensures { result ≡ self.now.held }
+    {
+        self.held.as_ref().map(|ticket| ticket.number())
+    }
+
     /// Begins a read, keeps its ticket and tells its number.
     pub fn begin_read(&mut self, multiplexor: Multiplexor) -> Result<u16, BeginRefusal>
         ensures answer { result ≡ begin_answer multiplexor Read (B.state self.old.bench) }

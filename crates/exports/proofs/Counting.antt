@@ -63,4 +63,4 @@ module _ (such : Outcome → Bool) where
   told_carried_out (Some k) (Some r) buffer after xs carried = told_carried k r buffer after xs carried
   told_carried_out (Some k) None buffer after xs carried = absurd carried
   told_carried_out None (Some r) buffer after xs carried = absurd carried
-  told_carried_out None None buffer after xs carried = silent_rounds xs carried.0
+  told_carried_out None None buffer after xs carried = ap (λ zs. count zs) carried.0

@@ -10,7 +10,7 @@ use dictionary::sample;
 use line::MemoryLine;
 use master::Method;
 use report::{Outcome, Report};
-use rounds::carry_out;
+use rounds::{Unwatched, carry_out};
 use wire::{LONGEST, Multiplexor};
 
 /// Writes a value to an entry as often as is said, by the method of a number, and counts how often it was written.
@@ -83,7 +83,7 @@ fn write<B: Steppable>(
     ensures ticket { session.new.held ≡ None }
 {
     let _ = session.begin_write(method, multiplexor, value);
-    was_written(carry_out(session, buffer))
+    was_written(carry_out(session, buffer, &mut Unwatched))
 }
 
 /// Tells whether a report says that the value was written.
@@ -109,7 +109,7 @@ fn read<B: Steppable>(
     ensures ticket { session.new.held ≡ None }
 {
     let _ = session.begin_read(multiplexor);
-    was_read(carry_out(session, buffer))
+    was_read(carry_out(session, buffer, &mut Unwatched))
 }
 
 /// Tells whether a report says that the entry was read.

@@ -9,7 +9,7 @@ use Rattle.bench.specs.Law.Runs.{Act, Tick, Settle}
 use Rattle.bench.specs.Tickets.{SettlesHeld}
 use Rattle.bench.proofs.Law.Runs.{Happened, settle_happened}
 use Rattle.rounds.specs.Rounds.{ServesAll, HearsAll, Round, round, Rounds, Ticks, resting, Carries, carries, CarriesOut, Went}
-use Rattle.rounds.proofs.Went.{went_on, went_by}
+use Rattle.rounds.proofs.Went.{went_nowhere, went_on, went_by}
 
 pub round_went : (over : Bool) (r : Ticked) (fs : List Frame) (s t u v : State) → Went ServesAll s t → Went (HearsAll over) t u → Happened (Tick r) fs u v → Went (Round (over || r.ended)) s v
 round_went over r fs s t u v served heard ticked =
@@ -32,3 +32,7 @@ carries_out k r buffer after s t u v rounds settled rested =
 pub held_carried_out : (held : Option ℕ) (r : Report) (buffer after : List ℕ) (s t u v : State) → Went Rounds s t → SettlesHeld held (Some (Ok r)) buffer after t u → Went (Ticks (resting r.outcome)) u v → Went (CarriesOut held (Some r) buffer after) s v
 held_carried_out None r buffer after s t u v rounds settled rested = absurd (let none = settled.0 in cc)
 held_carried_out (Some k) r buffer after s t u v rounds settled rested = carries_out k r buffer after s t u v rounds settled rested
+
+-- where no ticket is held
+pub none_carried_out : (held : Option ℕ) (r : Option Report) (buffer : List ℕ) (s : State) → held ≡ None → r ≡ None → Went (CarriesOut held r buffer buffer) s s
+none_carried_out held r buffer s out none = rw (out, none) (went_nowhere (CarriesOut None None buffer buffer) s (refl, refl))

@@ -67,12 +67,12 @@ resting (Unread f) = 30
 pub data Carries (k : ℕ) (r : Report) (buffer after : List ℕ) : List Act → Type 0 where
   carries : (xs ys : List Act) → Rounds xs → Ticks (resting r.outcome) ys → Carries k r buffer after (xs ++ Settle k buffer (Ok r) after ∷ ys)
 
--- the transfer is carried out whose ticket is held; where none is, there are rounds alone
+-- the transfer is carried out whose ticket is held; where none is, nothing happens
 abbrev pub CarriesOut : Option ℕ → Option Report → List ℕ → List ℕ → List Act → Type 0
 CarriesOut (Some k) (Some r) buffer after xs = Carries k r buffer after xs
 CarriesOut (Some k) None buffer after xs = ⊥
 CarriesOut None (Some r) buffer after xs = ⊥
-CarriesOut None None buffer after xs = Rounds xs × (after ≡ buffer)
+CarriesOut None None buffer after xs = (xs ≡ []) × (after ≡ buffer)
 
 -- What some events leave: after every past that led to the bench as it was before them, from a new bench with whatever dictionary,
 -- the past and they are again a run up to now, and the law holds of it.

@@ -3,6 +3,8 @@
 
 mod parts;
 mod transfer;
+mod watch;
 
 pub use parts::{MOST_CALLS, hear_all, rest, round, serve_all};
 pub use transfer::{MOST_ROUNDS, carry_out};
+pub use watch::{Unwatched, Watch};

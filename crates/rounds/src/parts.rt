@@ -3,6 +3,7 @@ ghost use Rattle.std.specs.Prelude.{◌≡◌};
 ghost use Rattle.bench.specs.Model.States.{State};
 ghost use Rattle.rounds.specs.Rounds.{ServesAll, HearsAll, Round, Ticks, Went};
 
+use crate::watch::Watch;
 use bench::{Session, Steppable};
 use master::{Heard, REST};
 use node::Served;
@@ -40,23 +41,25 @@ pub fn hear_all<B: Steppable>(session: &mut Session<B>) -> bool
 }
 
 /// Lets both ends take what waits and a tick pass, and tells whether the transfer ended.
-pub fn round<B: Steppable>(session: &mut Session<B>) -> bool
+pub fn round<B: Steppable, W: Watch<B>>(session: &mut Session<B>, watch: &mut W) -> bool
     ensures went { Went (Round result) (B.state session.old.bench) (B.state session.new.bench) }
     ensures ticket { session.new.held ≡ session.old.held }
 {
     serve_all(session);
     let over = hear_all(session);
+    watch.before_tick(session.bench());
     let ended = session.tick().ended;
     over || ended
 }
 
 /// Lets the 30 ticks pass for which a master rests after a transfer that failed.
-pub fn rest<B: Steppable>(session: &mut Session<B>)
+pub fn rest<B: Steppable, W: Watch<B>>(session: &mut Session<B>, watch: &mut W)
     ensures went { Went (Ticks 30) (B.state session.old.bench) (B.state session.new.bench) }
     ensures ticket { session.new.held ≡ session.old.held }
     ensures dictionary { B.dictionary session.new.bench ≡ B.dictionary session.old.bench }
 {
     for _ in 0..REST {
+        watch.before_tick(session.bench());
         let _ = session.tick();
     }
 }

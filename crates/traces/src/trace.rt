@@ -7,7 +7,7 @@ use dictionary::{Table, sample};
 use line::{End, MemoryLine, Recorder, Recording, Sent};
 use master::{BeginRefusal, Method};
 use report::{Failure, Outcome, Report};
-use rounds::carry_out;
+use rounds::{Unwatched, carry_out};
 use wire::{LONGEST, Multiplexor};
 
 /// How many frames are kept: more than two writes in segments, one by block and three reads of 1,024 bytes send.

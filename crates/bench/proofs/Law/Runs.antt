@@ -128,6 +128,10 @@ settle_happened k buffer s answer filled after = (record { of_master = after.0; 
 pub happens : (a : Act) (fs : List Frame) (s t : State) (h : Happened a fs s t) → Happens (event a fs h.0 s) s t
 happens a fs s t h = record { lost = refl; called = h.1 }
 
+-- an act that happened is one of an event
+pub act_happens : (a : Act) (fs : List Frame) {s t : State} → Happened a fs s t → (e : Event) × (e.act ≡ a) × Happens e s t
+act_happens a fs {s} {t} h = (event a fs h.0 s, refl, happens a fs s t h)
+
 pub keeps_law : (a : Act) (fs : List Frame) (s t : State) → Happened a fs s t → KeepsLaw a fs s t
 keeps_law a fs s t h = (
   h.0,

@@ -1,6 +1,6 @@
-use Rattle.std.proofs.Common.{Some, Ok, subst}
+use Rattle.std.proofs.Common.{Some, Ok, subst, rules}
 use Rattle.bench.specs.Tickets.{SettlesHeld}
-use Rattle.rounds.proofs.Joining.{held_carried_out}
+use Rattle.rounds.proofs.Joining.{held_carried_out, none_carried_out}
 use Rattle.rounds.proofs.transfer.carry_out.Goals as goal
 
 pub returns-clause-went : goal.returns-clause-went
@@ -14,3 +14,6 @@ returns-clause-went g c =
     held_carried_out c.args.session.now.held c.in-Ok.report buffer after (of c.args.session.now.bench) t u (of c.rest_after.new.session.bench) c.pass_frames.ensures.went
     (subst (λ held. SettlesHeld held (Some (Ok c.in-Ok.report)) buffer after t u) c.pass_frames.ensures.ticket settled)
     c.rest_after.ensures.went
+
+pub returns-in_err-ticket-clause-went : goal.returns-in_err-ticket-clause-went
+returns-in_err-ticket-clause-went g c = none_carried_out _ _ c.args.buffer.now (g.B.Steppable.state c.args.session.now.bench) (search rules) (search rules)

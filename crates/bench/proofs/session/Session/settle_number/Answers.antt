@@ -1,7 +1,10 @@
-use Rattle.std.proofs.Common.{Ok, Err, ap, ◌∙◌, rules}
-use Rattle.bench.specs.Model.Calls.{settle_frames}
-use Rattle.bench.specs.Law.Runs.{Settle, event}
-use Rattle.bench.proofs.Law.Runs.{settle_happened, happens}
+use Rattle.std.proofs.Common.{◌≡◌, ℕ, Bool, List, Result, ap, ◌∙◌, rules}
+use Rattle.report.specs.declared.refusal.SettleRefusal.{SettleRefusal}
+use Rattle.report.specs.declared.report.Report.{Report}
+use Rattle.bench.specs.Model.States.{State}
+use Rattle.bench.specs.Model.Calls.{settle_answer, settle_buffer, settle_step}
+use Rattle.bench.specs.Law.Runs.{Event, Happens, Settle}
+use Rattle.bench.proofs.Law.Runs.{settle_happened, act_happens}
 use Rattle.bench.proofs.Held.{settled_holds}
 use Rattle.bench.proofs.session.Session.settle_number.Goals as goal
 
@@ -11,20 +14,18 @@ read_bytes-read-requires-clause-bound g c n is = c.in-Ok.ensures.length n is
 pub invariant_of-self : goal.invariant_of-self
 invariant_of-self g c = record { own = c.take.ensures.after ∙ settled_holds _ _ _ _ _ c.in-Ok.ensures.answer c.settle.ensures.after }
 
+-- a settle, whose ticket has the number that was asked for
+told : {buffer after : List ℕ} {r : Result Report SettleRefusal} {s t : State} (number k : ℕ) → k ≡ number → r ≡ settle_answer k buffer s → after ≡ settle_buffer k buffer s → (ls : List Bool) × (t ≡ settle_step k buffer ls s) → (e : Event) × (e.act ≡ Settle number buffer r after) × Happens e s t
+told {buffer} {after} {r} {s} number k is answer filled stepped =
+    let made = act_happens (Settle k buffer r after) _ (settle_happened k buffer s answer filled stepped) in
+    (made.0, made.1 ∙ ap (λ n. Settle n buffer r after) is, made.2)
+
 pub returns-after-take : goal.returns-after-take
 returns-after-take g c =
-    let s = g.B.Steppable.state c.args.self.now.bench in
-    let k = c.new.result in
-    let buffer = c.args.buffer.now in
-    let after = c.settle.new.buffer in
-    let h = settle_happened k buffer s c.in-Ok.ensures.answer c.settle.ensures.buffer c.settle.ensures.after in
-    (event (Settle k buffer (Ok c.in-Ok.report) after) (settle_frames k buffer s) h.0 s, (after, ap (λ n. Settle n buffer (Ok c.in-Ok.report) after) c.new.ensures, c.read_bytes-read.ensures), happens _ _ _ _ h)
+    let made = told c.args.number c.new.result c.new.ensures c.in-Ok.ensures.answer c.settle.ensures.buffer c.settle.ensures.after in
+    (made.0, (c.settle.new.buffer, made.1, c.read_bytes-read.ensures), made.2)
 
 pub returns-in-Err : goal.returns-in-Err
 returns-in-Err g c =
-    let s = g.B.Steppable.state c.args.self.now.bench in
-    let k = c.new.result in
-    let buffer = c.args.buffer.now in
-    let after = c.settle.new.buffer in
-    let h = settle_happened k buffer s c.in-Err.ensures.answer c.settle.ensures.buffer c.settle.ensures.after in
-    (event (Settle k buffer (Err c.in-Err.refusal) after) (settle_frames k buffer s) h.0 s, (after, ap (λ n. Settle n buffer (Err c.in-Err.refusal) after) c.new.ensures, search rules), happens _ _ _ _ h)
+    let made = told c.args.number c.new.result c.new.ensures c.in-Err.ensures.answer c.settle.ensures.buffer c.settle.ensures.after in
+    (made.0, (c.settle.new.buffer, made.1, search rules), made.2)
