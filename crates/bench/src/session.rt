@@ -62,7 +62,7 @@ impl<B: Steppable> Session<B> {
         self.held.as_ref().map(|ticket| ticket.number())
     }
 
-    /// Begins a read, keeps its ticket and tells its number.
+    /// Begins a read, keeps its ticket and tells its number; or says why not, by 1 to 3.
     pub fn begin_read(&mut self, multiplexor: Multiplexor) -> Result<u16, BeginRefusal>
         ensures answer { result ≡ begin_answer multiplexor Read (B.state self.old.bench) }
         ensures after { (ls : List Bool) × (B.state self.new.bench ≡ begin_step multiplexor Read ls (B.state self.old.bench)) }
@@ -74,7 +74,8 @@ impl<B: Steppable> Session<B> {
         Ok(hold(&mut self.held, ticket))
     }
 
-    /// Begins a write, keeps its ticket and tells its number.
+    /// Begins a write, keeps its ticket and tells its number; or says why not, by 1 to 3, by 4 unless the value has 1 to 1,024 bytes,
+    /// and expedited by 5 above four bytes.
     pub fn begin_write(
         &mut self,
         method: Method,
@@ -120,7 +121,7 @@ impl<B: Steppable> Session<B> {
         self.bench.tick()
     }
 
-    /// Settles the ticket that is held, if one is; one that is refused is held on.
+    /// Settles the ticket that is held, if one is. It is refused by 7 where the buffer has fewer than 1,024 bytes, and then held on.
     pub fn settle(&mut self, buffer: &mut [u8]) -> Option<Result<Report, SettleRefusal>>
         ensures settled { SettlesHeld self.old.held result buffer.old buffer.new (B.state self.old.bench) (B.state self.new.bench) }
         ensures ticket { 1024 ≤ length buffer.old → self.new.held ≡ None }

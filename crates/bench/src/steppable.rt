@@ -42,7 +42,7 @@ pub trait Steppable {
     fn commits(&self) -> u16
         ensures { result ≡ (state self.now).node.commits };
 
-    /// Begins a read, or says why not.
+    /// Begins a read, or says why not. It is refused by 1 where a ticket is out, by 2 while the master rests, by 3 after 65,535 transfers.
     fn begin_read(&mut self, multiplexor: Multiplexor) -> Result<Ticket, BeginRefusal>
         ensures answer { result ≡ begin_answer multiplexor Read (state self.old) }
         ensures after { (ls : List Bool) × (state self.new ≡ begin_step multiplexor Read ls (state self.old)) }
@@ -50,7 +50,8 @@ pub trait Steppable {
         ensures refused { IfErr result (λ refusal. self.new ≡ self.old) }
         ensures law { KeepsLaw (Begin multiplexor Read result) (begin_frames multiplexor Read (state self.old)) (state self.old) (state self.new) };
 
-    /// Begins a write of a value, or says why not.
+    /// Begins a write of a value, or says why not. It is refused as a read is, then by 4 unless the value has 1 to 1,024 bytes,
+    /// and expedited by 5 above four bytes.
     fn begin_write(
         &mut self,
         method: Method,
@@ -84,6 +85,7 @@ pub trait Steppable {
         ensures law { KeepsLaw (Tick result) (tick_frames (state self.old)) (state self.old) (state self.new) };
 
     /// Takes a ticket back and tells what became of its transfer; one that is open is given up. The bytes of a read, 1,024 at most, go to the buffer's front.
+    /// It is refused by 6 where the ticket is not the one that is out, and by 7 where the buffer has fewer than 1,024 bytes.
     /// A ticket that is refused comes back, and nothing changes.
     fn settle(
         &mut self,

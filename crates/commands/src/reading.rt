@@ -24,7 +24,7 @@ pub enum Settling {
     ByNumber,
 }
 
-/// The command on a line, or none on a line to pass over.
+/// The command on a line, or none on a line to pass over; a `Misread` where the line is none, or for want of memory.
 pub fn read_line(
     heap: Global,
     settling: Settling,

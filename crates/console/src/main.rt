@@ -27,7 +27,8 @@ NODE and BLOCK are the node's number and its block size, 0 to 255; the bench
 takes the nearest from 1 to 127. LINE is memory or mailbox, and with +drop: and
 16 hex digits behind it the line loses each frame for which the bit of this
 pattern is 1, from the lowest bit on and round. DICTIONARY is sample or drive.
-Then, as often as wanted and in any order:
+No command before bench is understood. Then, as often as wanted and in any
+order:
 
     write expedited|segmented|block IIII:SS BYTES..
                      begin to write bytes, of two hex digits each
@@ -36,12 +37,12 @@ Then, as often as wanted and in any order:
     hear [N]         let the master take a frame
     tick [N]         let a tick pass
     settle [SIZE]    settle the ticket that is held, with a buffer of SIZE bytes,
-                     0 to 65535, or 1024
+                     0 to 65535; 1024 if left out
     entries          list the entries of the dictionary
     commits          tell how many values the node has set
 
 IIII:SS is an index of four hex digits and a subindex of two. N is how many
-calls are made, 1 to 1000, or one.
+calls are made, 1 to 1000; one if left out.
 
 Each call prints a line. Below it stands each frame that an end handed to the
 line in the call, in candump's log form, whether it was lost or not. A line that

@@ -1,4 +1,4 @@
--- The check value of a block transfer (CiA 301): a register of 16 bits that starts at 0 and takes in the value's bits
+-- The check value of a block transfer (CiA 301, 7.2.4.3.16): a register of 16 bits that starts at 0 and takes in the value's bits
 -- one by one, byte after byte, each from its highest bit. The generator is x^16 + x^12 + x^5 + 1.
 use Rattle.std.specs.Prelude.{ℕ, zero, suc, ◌*◌, ◌/◌, ◌%◌, ◌^◌, cond, List, fold, ◌==◌, bit_xor}
 

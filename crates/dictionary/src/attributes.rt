@@ -15,7 +15,8 @@ pub struct Attributes {
 }
 
 impl Attributes {
-    /// Says what speaks against writing a value of some length to an entry with these attributes.
+    /// Says what speaks against writing a value of some length to an entry with these attributes: 0601 0002 where it may not be written,
+    /// 0607 0013 where the value is too short, 0607 0012 where it is too long.
     pub fn check(self, len: usize) -> Result<(), AbortCode>
         ensures { result ≡ decided (objection self len) }
     {

@@ -22,7 +22,6 @@ pub extern "C" fn wontazhil_crc(bytes: &[u8]) -> u16
 }
 
 /// The bytes of four frames.
-// Four fields, and no array of frames: C has them by these names.
 #[repr(C)]
 #[derive(Clone, Copy)]
 pub struct Frames {
@@ -33,7 +32,6 @@ pub struct Frames {
 }
 
 /// Reads each of four frames as a request, and makes it again; one that is none has all bits set.
-// C calls this function and the next by their names; what both do is in `make_again`.
 #[unsafe(no_mangle)]
 pub extern "C" fn wontazhil_requests(frames: &mut Frames)
     ensures { frames.new ≡ each request_again frames.old }

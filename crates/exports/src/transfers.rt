@@ -13,7 +13,8 @@ use report::{Outcome, Report};
 use rounds::{Unwatched, carry_out};
 use wire::{LONGEST, Multiplexor};
 
-/// Writes a value to an entry as often as is said, by the method of a number, and counts how often it was written.
+/// Writes a value to an entry as often as is said, by the method of a number: 0 expedited, 1 segmented, any other block. Counts how often
+/// it was written. The node has number 5 and block size 127.
 #[unsafe(no_mangle)]
 pub extern "C" fn wontazhil_writes(
     method: u8,
@@ -39,7 +40,7 @@ pub extern "C" fn wontazhil_writes(
     good
 }
 
-/// Writes a value to an entry by block, reads the entry as often as is said, and counts how often it was read.
+/// Writes a value to an entry by block, reads the entry as often as is said, and counts how often it was read. The node is as for writes.
 #[unsafe(no_mangle)]
 pub extern "C" fn wontazhil_reads(index: u16, subindex: u8, value: &[u8], count: u16) -> u16
     ensures most { result ≤ count }

@@ -5,7 +5,6 @@ ghost use Rattle.line.specs.Meanings.{added, full, leading, following};
 use std::marker::Model;
 
 /// At most `ROOM` items in a ring: the one at `first` and those behind it, past the end from the start on.
-// A ring, and no `ArrayVec`: its first item leaves without moving the others.
 #[derive(Drop)]
 pub struct Queue<T: Copy, const ROOM: usize> {
     items: [T; ROOM],
@@ -46,7 +45,6 @@ impl<T: Copy, const ROOM: usize> Queue<T, ROOM> {
         if self.is_full() {
             return Err(item);
         }
-        // No `(self.first + self.count) % ROOM`: in a ring of more than half of all numbers the sum would not fit.
         let to_end = ROOM - self.first;
         let place = if self.count < to_end {
             self.first + self.count

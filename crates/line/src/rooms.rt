@@ -2,7 +2,6 @@
 ghost use Rattle.std.specs.Prelude.{◌≡◌};
 ghost use Rattle.line.specs.Meanings.{sent_within};
 
-// By the names that the crate exports, since those are meant.
 use crate::{End, Line, MailboxLine, MemoryLine};
 use wire::Frame;
 

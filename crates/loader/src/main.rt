@@ -98,9 +98,9 @@ fn load_orders(rt: &HostRuntime, options: Options<'_>) -> anyhow::Result<()> {
                 "the trace would take the place of the orders in {path}"
             );
             let trace = Trace::create(rt, path);
-            Some(trace.context(format_args!("the trace cannot be written to {path}"))?)
+            trace.context(format_args!("the trace cannot be written to {path}"))?
         }
-        None => None,
+        None => Trace::none(),
     };
     let mut loading = Loading::new(options.bench, trace);
     let printed = print_sheet(rt, options.bench, &mut loading, &orders);

@@ -1,4 +1,4 @@
-//! What a block segment says (CiA 301, 7.2.4.3: SDO block download sub-block).
+//! What a block segment says (CiA 301, 7.2.4.3.10: SDO block download sub-block).
 use sdo::SequenceNumber;
 
 /// Whether it is the last of all, its number within its sub-block, and its seven bytes.

@@ -1,4 +1,4 @@
-//! What the start of a block write says (CiA 301, 7.2.4.3: SDO block download initiate).
+//! What the start of a block write says (CiA 301, 7.2.4.3.9: SDO block download initiate).
 use crate::download_start::DownloadStart;
 use sdo::CrcOffer;
 

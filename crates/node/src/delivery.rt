@@ -1,4 +1,4 @@
-//! How far a read in segments has come (CiA 301, 7.2.4.3: SDO upload segment).
+//! How far a read in segments has come (CiA 301, 7.2.4.3.7: SDO upload segment).
 use sdo::Toggle;
 use wire::Multiplexor;
 

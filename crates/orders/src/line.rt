@@ -103,7 +103,7 @@ fn read_order(heap: Global, line: &[u8]) -> Result<Option<Order>, Fault>
     Ok(Some(read_rest(heap, named, second, words)?))
 }
 
-/// The order on a line, or none on a line to pass over.
+/// The order on a line, or none on a line to pass over; else the `Fault` that is met first, which may be want of memory.
 pub fn read_line(heap: Global, line: &[u8]) -> Result<Option<Order>, Fault>
     ensures { Reads result (line_meaning line.now) }
 {

@@ -43,7 +43,8 @@ impl Reading {
     }
 }
 
-/// The orders of a text's lines, and the lines that are no orders with their numbers, from 1.
+/// The orders of a text's lines, and the lines that are no orders with their numbers, from 1, and their `Fault`. Want of memory gives
+/// up the whole text.
 pub fn read_orders(heap: Global, text: &[u8]) -> Result<Reading, AllocError>
     ensures orders { IfOk result (λ x. map content x.orders.items ≡ orders_in (lines text.now)) }
     ensures bad { IfOk result (λ x. x.bad.items ≡ bad_in 1 (lines text.now)) }

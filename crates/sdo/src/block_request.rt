@@ -1,4 +1,4 @@
-//! What a master sends to a node that receives block segments (CiA 301, 7.2.4.3: the sub-block of an SDO block download).
+//! What a master sends to a node that receives block segments (CiA 301, 7.2.4.3.10: SDO block download sub-block).
 ghost use Rattle.std.specs.Prelude.{◌≡◌};
 ghost use Rattle.sdo.specs.Frames.{block_request_frame};
 ghost use Rattle.sdo.specs.BlockRequests.{block_request_bytes, block_request_in, shown_block_request, block_segment_in};

@@ -1,4 +1,4 @@
-//! Whether an end of a block transfer can check its value (CiA 301, 7.2.4.3: the bits cc and sc).
+//! Whether an end of a block transfer can check its value (CiA 301, 7.2.4.3.9: the bits cc and sc).
 ghost use Rattle.std.specs.Prelude.{◌≡◌, ◌≤◌};
 ghost use Rattle.sdo.specs.Blocks.{offer_bit};
 

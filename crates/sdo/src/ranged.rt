@@ -1,4 +1,4 @@
-//! Numbers in fields of a frame that do not take every number of their bits (CiA 301, 7.2.4.3: blksize, seqno and n).
+//! Numbers in fields of a frame that do not take every number of their bits (CiA 301, 7.2.4.3.9 to 7.2.4.3.11: blksize, seqno and n).
 ghost use Rattle.std.specs.Prelude.{◌≡◌, ◌+◌, ◌≤◌, ◌%◌};
 ghost use Rattle.std.specs.Option.{option_map};
 ghost use Rattle.sdo.specs.Ranges.{in_range};
@@ -54,7 +54,6 @@ impl<const HIGH: u8> Ranged<0, HIGH> {
 
 impl BlockSize {
     /// The block size nearest to a number: itself from 1 to 127, else the nearer end.
-    // For block sizes alone: a range may be empty, and then no number is the nearest.
     pub fn nearest(number: u8) -> BlockSize
         ensures { result.number ≡ nearest number }
     {

@@ -1,4 +1,4 @@
-//! A segment of a value, the same in both directions (CiA 301, 7.2.4.3: SDO download segment and SDO upload segment).
+//! A segment of a value, the same in both directions (CiA 301, 7.2.4.3.4 and 7.2.4.3.7: SDO download segment and SDO upload segment).
 ghost use Rattle.std.specs.Prelude.{◌≡◌};
 ghost use Rattle.sdo.specs.FrameData.{value_in};
 ghost use Rattle.sdo.specs.Segments.{segment_bytes, toggle_in, data_in, last_in};

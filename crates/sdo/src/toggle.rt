@@ -1,4 +1,4 @@
-//! The bit by which a segment is told from the one before it (CiA 301, 7.2.4.3: the bit t).
+//! The bit by which a segment is told from the one before it (CiA 301, 7.2.4.3.4 and 7.2.4.3.7: the bit t).
 ghost use Rattle.std.specs.Prelude.{◌≡◌, ◌≤◌};
 ghost use Rattle.sdo.specs.Segments.{other, toggle_bit};
 

@@ -1,4 +1,4 @@
-//! How a value comes across (CiA 301, 7.2.4.3: the bits e, s and n of an initiate and its field d).
+//! How a value comes across (CiA 301, 7.2.4.3.3 and 7.2.4.3.6: the bits e, s and n of an initiate and its field d).
 use crate::frame_data::ExpeditedData;
 
 mod methods;

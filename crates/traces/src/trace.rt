@@ -10,10 +10,11 @@ use report::{Failure, Outcome, Report};
 use rounds::{Unwatched, carry_out};
 use wire::{LONGEST, Multiplexor};
 
-/// How many frames are kept: more than two writes in segments, one by block and three reads of 1,024 bytes send.
+/// How many frames are kept: more than a write in segments, one by block and three reads of 1,024 bytes send, which are 1,337.
 const FRAMES: usize = 1600;
 
-/// How many bytes a trace takes at most.
+/// How many bytes a trace takes at most: more than 11 for each frame that is kept, 20 for each of six transfers, 2 for the number of
+/// values set and 1,024 of the buffer.
 const ROOM: usize = 20_000;
 
 type Bytes = ArrayVec<u8, ROOM>;

@@ -24,7 +24,7 @@ impl Table {
         }
     }
 
-    /// Takes an entry behind all others, or says why not and changes nothing.
+    /// Takes an entry behind all others, or says why not, by 8 to 11, and changes nothing.
     pub fn add(
         &mut self,
         multiplexor: Multiplexor,

@@ -22,7 +22,8 @@ impl Master {
     ghost use Rattle.std.specs.Borrow.{sem};
     ghost use Rattle.master.specs.Lending.{leaves};
 
-    /// Begins a read, or says why not.
+    /// Begins a read, or says why not. It is refused by 1 where an earlier transfer has not been cleared, by 2 while the master rests,
+    /// by 3 after 65,535 transfers.
     #[inline(always)]
     pub fn begin_read(&mut self, multiplexor: Multiplexor) -> Result<Begun<'_>, BeginRefusal>
         ensures* state { sem 𝓛 (leaves self.entry (begin self.old multiplexor Read).next) }
@@ -32,7 +33,8 @@ impl Master {
         Ok(self.lend_start(plan))
     }
 
-    /// Begins a write of a value, or says why not.
+    /// Begins a write of a value, or says why not. It is refused as a read is, then by 4 unless the value has 1 to 1,024 bytes,
+    /// and expedited by 5 above four bytes.
     #[inline(always)]
     pub fn begin_write(
         &mut self,

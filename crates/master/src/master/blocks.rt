@@ -1,4 +1,4 @@
-//! Block writes: sub-blocks, their acknowledgements and the end (CiA 301, 7.2.4.3: SDO block download).
+//! Block writes: sub-blocks, their acknowledgements and the end (CiA 301, 7.2.4.3.9 to 7.2.4.3.11: SDO block download initiate, sub-block and end).
 ghost use Rattle.std.specs.Prelude.{◌≡◌, ◌≤◌};
 ghost use Rattle.master.specs.Steps.{send_sub_block, send_end, go_on, block_started, kept, acknowledge};
 ghost use Rattle.master.specs.Shown.{Follows};

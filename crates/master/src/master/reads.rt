@@ -1,4 +1,4 @@
-//! Reads: the answer to the start, and segment after segment (CiA 301, 7.2.4.3: SDO upload and SDO upload segment).
+//! Reads: the answer to the start, and segment after segment (CiA 301, 7.2.4.3.6 and 7.2.4.3.7: SDO upload initiate and segment).
 ghost use Rattle.std.specs.Prelude.{◌≡◌, ◌≤◌, ◌++◌, length};
 ghost use Rattle.sdo.specs.FrameData.{value_in};
 ghost use Rattle.sdo.specs.Transfers.{shown_transfer, Segmented};

@@ -17,7 +17,7 @@ impl Master {
     ghost use Rattle.std.specs.Borrow.{sem};
     ghost use Rattle.master.specs.Lending.{leaves};
 
-    /// Lets a tick pass.
+    /// Lets a tick pass. The tenth since the last send ends an open transfer with 0504 0000.
     #[inline(always)]
     pub fn tick(&mut self) -> Tick<'_>
         ensures* state { sem 𝓛 (leaves self.entry (tick self.old).next) }
@@ -68,7 +68,7 @@ impl Master {
         }
     }
 
-    /// Ends an open transfer.
+    /// Ends an open transfer with 0800 0000.
     #[inline(always)]
     pub fn give_up(&mut self) -> Sending<'_>
         ensures* state { sem 𝓛 (leaves self.entry (give_up self.old).next) }

@@ -1,4 +1,4 @@
-//! Writes in segments, each answered before the next (CiA 301, 7.2.4.3: SDO download segment).
+//! Writes in segments, each answered before the next (CiA 301, 7.2.4.3.4: SDO download segment).
 ghost use Rattle.master.specs.Steps.{send_segment, segment_taken};
 ghost use Rattle.master.specs.Shown.{Follows};
 

@@ -15,7 +15,7 @@ use wire::{AbortCode, Frame};
 const PATIENCE: u8 = 25;
 
 impl Node {
-    /// Lets a tick pass: the abort with which a node ends its transfer that took no frame for 25 ticks.
+    /// Lets a tick pass: the abort, 0504 0000, with which a node ends its transfer that took no frame for 25 ticks.
     #[tactic(auto, unfolding(crate::specs::Nodes::tick))]
     pub fn tick(&mut self) -> Option<Frame>
         ensures { Ticks self.old self.new result }

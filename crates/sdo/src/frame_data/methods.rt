@@ -22,7 +22,7 @@ impl<const LEAST: usize, const MOST: usize> FrameData<LEAST, MOST> {
         requires { (LEAST ≤ length value.now) × (length value.now ≤ MOST) }
         ensures { value_in result ≡ value.now }
     {
-        // Bytes that fill the field are most of all, and are copied as so many.
+        // Where the bytes fill the field they are copied as an array, of a length that is known.
         match value.as_array() {
             Some(bytes) => FrameData {
                 bytes: *bytes,
