@@ -14,7 +14,7 @@ use master::{BeginRefusal, Heard, Master, Method};
 use node::{Node, Served};
 use report::{Report, SettleRefusal};
 use sdo::BlockSize;
-use sending::{carry_out, reply};
+use sending::{put_on_line, reply};
 use settling::fill;
 use wire::{LONGEST, Multiplexor, NodeNumber};
 
@@ -99,7 +99,7 @@ impl<L: Line, D: Writable> Steppable for Bench<L, D> {
     fn hear(&mut self) -> Heard {
         let taken = self.line.take(End::Master);
         let hearing = self.master.hear(taken);
-        carry_out(&mut self.line, hearing.sending);
+        put_on_line(&mut self.line, hearing.sending);
         hearing.heard
     }
 
@@ -107,7 +107,7 @@ impl<L: Line, D: Writable> Steppable for Bench<L, D> {
     fn tick(&mut self) -> Ticked {
         let tick = self.master.tick();
         let ended = tick.ended;
-        carry_out(&mut self.line, tick.sending);
+        put_on_line(&mut self.line, tick.sending);
         let abort = self.node.tick();
         reply(&mut self.line, abort);
         Ticked { ended }
@@ -127,7 +127,7 @@ impl<L: Line, D: Writable> Steppable for Bench<L, D> {
         }
         ticket.take_back();
         let sending = self.master.give_up();
-        carry_out(&mut self.line, sending);
+        put_on_line(&mut self.line, sending);
         // Over by now: the ticket was out, and what was open is given up.
         let report = self.report().unwrap();
         fill(buffer, report, self.master.value());

@@ -32,11 +32,13 @@ pub trait Steppable {
 
     /// The line.
     fn line(&self) -> &Self::Line
-        ensures { result.now ≡ line self.now };
+        ensures itself { result.now ≡ line self.now }
+        ensures shown { Self.Line.Line.shows result.now ≡ (state self.now).line };
 
     /// The dictionary.
     fn dictionary(&self) -> &Self::Dictionary
-        ensures { result.now ≡ dictionary self.now };
+        ensures itself { result.now ≡ dictionary self.now }
+        ensures meant { Self.Dictionary.Readable.meaning result.now ≡ (state self.now).dictionary };
 
     /// How many values the node has set, modulo 65,536.
     fn commits(&self) -> u16

@@ -10,9 +10,9 @@ use Rattle.commands.specs.declared.line_order.LineKind.{LineKind}
 use Rattle.commands.specs.declared.line_order.LineKind.TheVariants as kind
 
 -- a line of a kind that loses frames by a pattern, and has lost none
-abbrev pub line_of : LineKind → ℕ → NamedLine
-line_of kind.Memory pattern = named.Memory (fresh_layer quieted pattern)
-line_of kind.Mailbox pattern = named.Mailbox (fresh_layer quieted pattern)
+abbrev pub line_ordered : LineKind → ℕ → NamedLine
+line_ordered kind.Memory pattern = named.Memory (fresh_layer quieted pattern)
+line_ordered kind.Mailbox pattern = named.Mailbox (fresh_layer quieted pattern)
 
 -- what a recorded line means
 abbrev pub recorded_shown : {room : ℕ} → Recorder NamedLine room → Meaning

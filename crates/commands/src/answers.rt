@@ -13,11 +13,11 @@ pub struct NotUnderstood(pub u64);
 
 /// The number of the ticket for a transfer that was begun, or why none was.
 #[derive(Clone, Copy)]
-pub struct Begun(pub Result<u16, BeginRefusal>);
+pub struct BegunText(pub Result<u16, BeginRefusal>);
 
 /// What came of settling a ticket.
 #[derive(Clone, Copy)]
-pub struct Settled<'a> {
+pub struct SettledText<'a> {
     pub settled: Result<Report, SettleRefusal>,
     /// The bytes of a read stand in its front.
     pub buffer: &'a [u8],
@@ -43,7 +43,7 @@ impl fmt::Display for NotUnderstood {
     }
 }
 
-impl fmt::Display for Begun {
+impl fmt::Display for BegunText {
     ghost output = { λ b. Some (begun b.0) };
 
     fn fmt<W: fmt::Write>(&self, f: &mut fmt::Formatter<W>) -> fmt::Result {
@@ -57,7 +57,7 @@ impl fmt::Display for Begun {
     }
 }
 
-impl fmt::Display for Settled<'_> {
+impl fmt::Display for SettledText<'_> {
     ghost output = { λ s. Some (settled s.settled s.buffer.now) };
 
     fn fmt<W: fmt::Write>(&self, f: &mut fmt::Formatter<W>) -> fmt::Result {

@@ -11,9 +11,11 @@ mod line_order;
 mod misread;
 mod numbers;
 mod reading;
+#[cfg(test)]
+mod tests;
 mod words;
 
-pub use answers::{Begun, NotUnderstood, Settled};
+pub use answers::{BegunText, NotUnderstood, SettledText};
 pub use arguments::{UnknownArgument, asks_for_help};
 pub use bench_order::{BenchOrder, BenchSession};
 pub use command::{Command, WriteOrder};

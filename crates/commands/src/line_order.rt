@@ -1,7 +1,7 @@
 //! Lines by their names.
 ghost use Rattle.std.specs.Prelude.{◌≡◌, Some, []};
 ghost use Rattle.commands.specs.Names.{line_name, line_named};
-ghost use Rattle.commands.specs.Lines.{line_of};
+ghost use Rattle.commands.specs.Lines.{line_ordered};
 
 use line::{NamedLine, Recorder};
 use std::fmt;
@@ -32,7 +32,7 @@ pub enum LineKind {
 impl LineOrder {
     /// The line that is ordered, on which nothing was sent yet.
     pub fn line(self) -> RecordedLine
-        ensures below { result.line ≡ line_of self.kind self.pattern }
+        ensures below { result.line ≡ line_ordered self.kind self.pattern }
         ensures nothing { result.kept.items ≡ [] }
         ensures none { result.sent ≡ 0 }
     {

@@ -7,13 +7,13 @@ use crate::misread::Misread;
 use crate::numbers::{read_decimal, read_pattern};
 use orders::{read_byte, read_method, read_multiplexor, without_return};
 use std::alloc::Global;
-use wire::Multiplexor;
+use wire::{LONGEST, Multiplexor};
 
 /// The most calls that one line can ask for.
-const MOST_CALLS: u64 = 1000;
+const MOST_TIMES: u64 = 1000;
 
 /// How many bytes a buffer has where its size is left out.
-const USUAL_BUFFER: u16 = 1024;
+const USUAL_BUFFER: u16 = LONGEST as u16;
 
 /// How a script names the ticket that it settles.
 #[derive(Clone, Copy)]
@@ -125,7 +125,7 @@ fn read_read(arguments: &[&[u8]]) -> Option<Multiplexor> {
 fn read_times(arguments: &[&[u8]]) -> Option<u64> {
     match arguments {
         [] => Some(1),
-        [times] => read_decimal(times).filter(|times| 1 <= *times && *times <= MOST_CALLS),
+        [times] => read_decimal(times).filter(|times| 1 <= *times && *times <= MOST_TIMES),
         _ => None,
     }
 }

@@ -2,14 +2,18 @@
 use crate::lines::{Lines, command_on};
 use bench::Steppable;
 use commands::{
-    Begun, BenchSession, Command, NotUnderstood, RecordedLine, Settled, WriteOrder, heard_words,
-    print_entries, served_words, tick_words,
+    BegunText, BenchSession, Command, NotUnderstood, RecordedLine, SettledText, WriteOrder,
+    heard_words, print_entries, served_words, tick_words,
 };
 use line::Recording;
 use wire::{LONGEST, Multiplexor};
 
 /// Carries out all calls of a script, and settles the ticket that is then held.
-pub fn run_calls(rt: &HostRuntime, lines: Lines, mut session: BenchSession) -> anyhow::Result<()> {
+pub fn run_commands(
+    rt: &HostRuntime,
+    lines: Lines,
+    mut session: BenchSession,
+) -> anyhow::Result<()> {
     let run = run_lines(rt, lines, &mut session);
     let ended = end(rt, session);
     run?;
@@ -20,7 +24,7 @@ pub fn run_calls(rt: &HostRuntime, lines: Lines, mut session: BenchSession) -> a
 fn run_lines(rt: &HostRuntime, lines: Lines, session: &mut BenchSession) -> anyhow::Result<()> {
     for (number, line) in lines {
         if let Some(command) = command_on(rt, number, &line?)? {
-            carry_out(rt, number, session, command)?;
+            run_command(rt, number, session, command)?;
         }
     }
     Ok(())
@@ -32,7 +36,7 @@ fn end(rt: &HostRuntime, session: BenchSession) -> anyhow::Result<()> {
     let before = session.bench().line().sent();
     let (bench, report) = session.close(&mut buffer);
     if let Some(report) = report {
-        let settled = Settled {
+        let settled = SettledText {
             settled: Ok(report),
             buffer: &buffer,
         };
@@ -42,7 +46,7 @@ fn end(rt: &HostRuntime, session: BenchSession) -> anyhow::Result<()> {
 }
 
 /// Carries out the command on a line, and prints what came of it and the frames that were sent in it.
-fn carry_out(
+fn run_command(
     rt: &HostRuntime,
     number: u64,
     session: &mut BenchSession,
@@ -69,7 +73,7 @@ fn read(
     multiplexor: Multiplexor,
 ) -> anyhow::Result<()> {
     let before = session.bench().line().sent();
-    let begun = Begun(session.begin_read(multiplexor));
+    let begun = BegunText(session.begin_read(multiplexor));
     println!(rt; "{begun}")?;
     print_frames(rt, session.bench().line(), before)
 }
@@ -77,7 +81,7 @@ fn read(
 /// Begins a write.
 fn write(rt: &HostRuntime, session: &mut BenchSession, order: WriteOrder) -> anyhow::Result<()> {
     let before = session.bench().line().sent();
-    let begun = Begun(session.begin_write(order.method, order.multiplexor, &order.value));
+    let begun = BegunText(session.begin_write(order.method, order.multiplexor, &order.value));
     println!(rt; "{begun}")?;
     print_frames(rt, session.bench().line(), before)
 }
@@ -122,7 +126,7 @@ fn settle(rt: &HostRuntime, session: &mut BenchSession, size: usize) -> anyhow::
     match session.settle(&mut buffer) {
         Some(settled) => {
             let buffer = &buffer;
-            println!(rt; "{}", Settled { settled, buffer })?;
+            println!(rt; "{}", SettledText { settled, buffer })?;
         }
         None => println!(rt; "settle: no ticket")?,
     }

@@ -1,12 +1,12 @@
 //! How a script begins: with the bench that it is for.
-use crate::calls::run_calls;
+use crate::calls::run_commands;
 use crate::lines::{Lines, command_on};
 use commands::{BenchOrder, Command, NotUnderstood};
 
 /// Runs a script from its first line on.
 pub fn run_script(rt: &HostRuntime, mut lines: Lines) -> anyhow::Result<()> {
     match first_bench(rt, &mut lines)? {
-        Some(order) => run_calls(rt, lines, order.session()),
+        Some(order) => run_commands(rt, lines, order.session()),
         None => Ok(()),
     }
 }

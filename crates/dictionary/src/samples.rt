@@ -6,7 +6,7 @@ ghost use Rattle.dictionary.specs.Tables.{table_entries};
 use crate::access::Access;
 use crate::attributes::Attributes;
 use crate::table::Table;
-use wire::Multiplexor;
+use wire::{LONGEST, Multiplexor};
 
 /// A table with a device type, a device name, a value of two bytes and one of up to 1,024.
 pub fn sample() -> Table
@@ -21,7 +21,11 @@ pub fn sample() -> Table
         within(Access::ReadWrite, 2, 2),
         &[0x0a, 0x00],
     );
-    let _ = table.add(at(0x2001, 0), within(Access::ReadWrite, 1, 1024), &[0x00]);
+    let _ = table.add(
+        at(0x2001, 0),
+        within(Access::ReadWrite, 1, LONGEST as u16),
+        &[0x00],
+    );
     table
 }
 

@@ -1,9 +1,9 @@
--- Frames read as messages of one direction, and made again from what was read: so the bits and bytes that are ignored come
+-- FourFrames read as messages of one direction, and made again from what was read: so the bits and bytes that are ignored come
 -- back as zeros.
 use Rattle.std.specs.Prelude.{ℕ, List, replicate, Some, None, Option}
 use Rattle.sdo.specs.Requests.{Request, request_bytes, request_in}
 use Rattle.sdo.specs.Answers.{Answer, answer_bytes, answer_in}
-use Rattle.exports.specs.declared.Frames.{Frames}
+use Rattle.exports.specs.declared.FourFrames.{FourFrames}
 
 -- what stands for no frame: all bits set
 abbrev pub no_frame : List ℕ
@@ -26,5 +26,5 @@ abbrev pub answer_again : List ℕ → List ℕ
 answer_again b = some_answer_bytes (answer_in b)
 
 -- something done with each of four frames
-abbrev pub each : (List ℕ → List ℕ) → Frames → Frames
+abbrev pub each : (List ℕ → List ℕ) → FourFrames → FourFrames
 each f four = record { first = f four.first; second = f four.second; third = f four.third; fourth = f four.fourth }

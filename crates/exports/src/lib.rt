@@ -24,7 +24,7 @@ pub extern "C" fn wontazhil_crc(bytes: &[u8]) -> u16
 /// The bytes of four frames.
 #[repr(C)]
 #[derive(Clone, Copy)]
-pub struct Frames {
+pub struct FourFrames {
     pub first: [u8; 8],
     pub second: [u8; 8],
     pub third: [u8; 8],
@@ -33,7 +33,7 @@ pub struct Frames {
 
 /// Reads each of four frames as a request, and makes it again; one that is none has all bits set.
 #[unsafe(no_mangle)]
-pub extern "C" fn wontazhil_requests(frames: &mut Frames)
+pub extern "C" fn wontazhil_requests(frames: &mut FourFrames)
     ensures { frames.new ≡ each request_again frames.old }
 {
     make_again(
@@ -51,7 +51,7 @@ pub extern "C" fn wontazhil_requests(frames: &mut Frames)
 
 /// Reads each of four frames as an answer, and makes it again; one that is none has all bits set.
 #[unsafe(no_mangle)]
-pub extern "C" fn wontazhil_answers(frames: &mut Frames)
+pub extern "C" fn wontazhil_answers(frames: &mut FourFrames)
     ensures { frames.new ≡ each answer_again frames.old }
 {
     make_again(
@@ -68,7 +68,7 @@ pub extern "C" fn wontazhil_answers(frames: &mut Frames)
 }
 
 /// Puts in place of each of four frames what is made of it.
-fn make_again<F: Fn([u8; 8]) -> [u8; 8]>(frames: &mut Frames, made: F)
+fn make_again<F: Fn([u8; 8]) -> [u8; 8]>(frames: &mut FourFrames, made: F)
     requires { F.IsAlwaysCallable made }
     ensures first { F.post made frames.old.first frames.new.first }
     ensures second { F.post made frames.old.second frames.new.second }

@@ -5,8 +5,9 @@ ghost use Rattle.line.specs.Meanings.{sent_within, quieted, waiting};
 use crate::end::End;
 use crate::line::Line;
 use crate::queue::Queue;
+use crate::sent::Sent;
 use std::marker::Model;
-use wire::{Frame, Identifier, NodeNumber};
+use wire::Frame;
 
 /// A line that holds `ROOM` frames each way.
 #[derive(Drop)]
@@ -40,10 +41,7 @@ impl<const ROOM: usize> BoundedLine<ROOM> {
     pub fn new() -> Self
         ensures { result ≡ quieted }
     {
-        let unused = Frame {
-            identifier: Identifier::of_requests(NodeNumber::nearest(1)),
-            bytes: [0; 8],
-        };
+        let unused = Sent::default().frame;
         BoundedLine {
             to_node: Queue::new(unused),
             to_master: Queue::new(unused),

@@ -1,10 +1,10 @@
 //! A line that is chosen at run time.
-ghost use Rattle.std.specs.Prelude.{◌≡◌, Bool};
+ghost use Rattle.std.specs.Prelude.{◌≡◌, ◌||◌, Bool};
 ghost use Rattle.line.specs.declared.named_line.NamedLine.TheVariants.{Memory, Mailbox};
 ghost use Rattle.line.specs.Drops.{fresh_layer};
 ghost use Rattle.line.specs.Meanings.{sent, handed_out, taken, quieted};
 ghost use Rattle.line.specs.Named.{named_shown, dropped_by};
-ghost use Rattle.line.specs.Patterns.{turned};
+ghost use Rattle.line.specs.Patterns.{lowest_bit, turned};
 
 use crate::bounded_line::{MailboxLine, MemoryLine};
 use crate::drop_layer::DropLayer;
@@ -40,7 +40,7 @@ impl Line for NamedLine {
     ghost shows = { named_shown };
 
     fn send(&mut self, to: End, frame: Frame)
-        ensures sends { (lost : Bool) × (named_shown self.new ≡ sent to frame lost (named_shown self.old)) }
+        ensures exactly { (lost : Bool) × (named_shown self.new ≡ sent to frame (lowest_bit (dropped_by self.old) || lost) (named_shown self.old)) }
         ensures turns { dropped_by self.new ≡ turned (dropped_by self.old) }
     {
         match self {

@@ -9,6 +9,7 @@ mod values;
 
 use anyhow::{Context, bail, ensure};
 use loading::Loading;
+use master::MOST_TRANSFERS;
 use options::Options;
 use orders::{Order, read_orders};
 use sheet::print_sheet;
@@ -16,9 +17,6 @@ use std::io::Read;
 use std::process::ExitCode;
 use std::{env, fs};
 use trace::Trace;
-
-/// The most orders of a load: so many transfers a master can begin.
-const MOST_ORDERS: usize = 65_535;
 
 const HELP: &str = "Loads orders into a node, and prints a sheet of what became of each.
 
@@ -88,8 +86,8 @@ fn load_orders(rt: &HostRuntime, options: Options<'_>) -> anyhow::Result<()> {
     let text = read_text(rt, options.orders)?;
     let orders = orders_of(rt, &text)?;
     ensure!(
-        orders.len() <= MOST_ORDERS,
-        "more than {MOST_ORDERS} orders, so nothing was loaded"
+        orders.len() <= usize::from(MOST_TRANSFERS),
+        "more than {MOST_TRANSFERS} orders, so nothing was loaded"
     );
     let trace = match options.trace {
         Some(path) => {

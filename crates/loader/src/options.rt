@@ -1,5 +1,5 @@
 //! What the command line asks for.
-use crate::values::{read_device, read_line, read_number, read_pattern};
+use crate::values::{read_device, read_drop, read_line_kind, read_number};
 use anyhow::{bail, ensure};
 use commands::{BenchOrder, DeviceKind, LineKind, LineOrder};
 
@@ -53,7 +53,7 @@ impl<'a> Options<'a> {
                 rest
             }
             ["--line", name, rest @ ..] => {
-                let kind = read_line(name)?;
+                let kind = read_line_kind(name)?;
                 let line = LineOrder {
                     kind,
                     ..self.bench.line
@@ -62,7 +62,7 @@ impl<'a> Options<'a> {
                 rest
             }
             ["--drop", digits, rest @ ..] => {
-                let pattern = read_pattern(digits)?;
+                let pattern = read_drop(digits)?;
                 let line = LineOrder {
                     pattern,
                     ..self.bench.line

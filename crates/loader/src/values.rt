@@ -8,7 +8,7 @@ pub fn read_device(name: &str) -> anyhow::Result<DeviceKind> {
 }
 
 /// The line of a name.
-pub fn read_line(name: &str) -> anyhow::Result<LineKind> {
+pub fn read_line_kind(name: &str) -> anyhow::Result<LineKind> {
     LineKind::named(name.as_bytes()).context(format_args!("unknown line {name}, try --help"))
 }
 
@@ -21,7 +21,7 @@ pub fn read_number(option: &str, digits: &str) -> anyhow::Result<u8> {
 }
 
 /// The pattern that the value of `--drop` writes, the highest digit first.
-pub fn read_pattern(digits: &str) -> anyhow::Result<u64> {
+pub fn read_drop(digits: &str) -> anyhow::Result<u64> {
     commands::read_pattern(digits.as_bytes()).context(format_args!(
         "--drop {digits}: a pattern of exactly 16 hex digits is wanted, try --help"
     ))

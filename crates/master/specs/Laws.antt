@@ -18,7 +18,6 @@ use Rattle.master.specs.declared.phase.Awaiting.TheVariants as awaiting
 use Rattle.master.specs.declared.phase.Aborted.{Aborted}
 use Rattle.master.specs.declared.phase.Finder.TheVariants.{Node}
 use Rattle.master.specs.declared.refusal.BeginRefusal.TheVariants.{NotCleared, Resting}
-use Rattle.master.specs.Limits.{rest_ticks}
 use Rattle.master.specs.Values.{is_last}
 use Rattle.master.specs.States.{State}
 use Rattle.master.specs.Steps.{hear}
@@ -50,11 +49,11 @@ OnlyOpenTransfersEnd = (t : State) → is_open t.phase ≡ false → (tick t).en
 pub data JustFailed : State → Type 0 where
   by_call : (s : State) (w : Awaiting) (c : Move) (f : Aborted) → s.phase ≡ Open w → (after s c).phase ≡ Over (Err f) → JustFailed (after s c)
 
--- for the next 30 ticks, which are rest_ticks, it begins nothing, and resting is the reason once the transfer is cleared; the 30th quiets the line
+-- for the next 30 ticks it begins nothing, and resting is the reason once the transfer is cleared; the 30th quiets the line
 pub record Rests (n : ℕ) (t : State) : Type 0 where
-  pub refuses : (m : Multiplexor) (o : Order) → n < rest_ticks → (begin t m o).answer ≡ cond (not_cleared t.phase) (Err NotCleared) (Err Resting)
-  pub quiets : n < rest_ticks → (tick t).sending ≡ record { quiet = (n + 1 == rest_ticks); frames = [] }
-  pub ends : (m : Multiplexor) (o : Order) → rest_ticks ≤ n → (begin t m o).answer ≢ Err Resting
+  pub refuses : (m : Multiplexor) (o : Order) → n < 30 → (begin t m o).answer ≡ cond (not_cleared t.phase) (Err NotCleared) (Err Resting)
+  pub quiets : n < 30 → (tick t).sending ≡ record { quiet = (n + 1 == 30); frames = [] }
+  pub ends : (m : Multiplexor) (o : Order) → 30 ≤ n → (begin t m o).answer ≢ Err Resting
 
 abbrev pub RestsForThirtyTicks : Type 0
 RestsForThirtyTicks = (s t : State) (fs : List Frame) (n : ℕ) → JustFailed s → Run s fs n t → Rests n t

@@ -17,7 +17,6 @@ use Rattle.master.specs.declared.phase.Phase.TheVariants.{Over}
 use Rattle.master.specs.declared.phase.Aborted.{Aborted}
 use Rattle.master.specs.declared.phase.Finder.{Finder}
 use Rattle.master.specs.declared.phase.Finder.TheVariants.{Master, Node}
-use Rattle.master.specs.Limits.{segment_cap}
 use Rattle.master.specs.States.{State}
 use Rattle.master.specs.Calls.{Order, Started, begin}
 use Rattle.master.specs.Runs.{Move, Hear, after, sent_in, begins}
@@ -122,14 +121,14 @@ pub data Traffic (s : State) : List Passed → State → Type 0 where
   none : Traffic s [] s
   more : (ps : List Passed) (t : State) (c : Move) → Traffic s ps t → begins t c ≡ false → Traffic s (ps ++ passed_in t c) (after t c)
 
--- The failure that the notes tell: that of the abort. The value may be set where it was whole, unless the node sent the abort.
+-- The failure that the notes tell: that of the abort. The value may be set where it was whole, unless the node sent the abort. The number of the segment has 16 bits.
 
 abbrev pub by_master : Finder → Bool
 by_master Master = true
 by_master Node = false
 
 abbrev pub failure_by : Notes → Abort → Aborted
-failure_by w a = record { code = a.code; finder = a.sender; may_be_set = by_master a.sender && w.complete; segment = min w.highest segment_cap }
+failure_by w a = record { code = a.code; finder = a.sender; may_be_set = by_master a.sender && w.complete; segment = min w.highest 65535 }
 
 abbrev pub failure_in : Notes → Option Aborted
 failure_in w = option_map (failure_by w) w.abort

@@ -17,7 +17,7 @@ pub use direction::Direction;
 pub use frames::{Frames, Segments};
 pub use heard::Heard;
 pub use laws::master_laws;
-pub use master::{Master, REST};
+pub use master::{MOST_TRANSFERS, Master, REST};
 pub use method::{MOST_EXPEDITED, MOST_SEGMENTED, Method};
 pub use phase::{Aborted, Ending, Finder};
 pub use refusal::BeginRefusal;

@@ -23,7 +23,7 @@ mod writes;
 pub const REST: u8 = 30;
 
 /// The most transfers that a master begins.
-pub(crate) const MOST_TRANSFERS: u16 = 65_535;
+pub const MOST_TRANSFERS: u16 = 65_535;
 
 /// The number at which the segments of a read are no longer counted.
 pub(crate) const SEGMENT_CAP: u16 = 65_535;

@@ -16,7 +16,7 @@ use Rattle.node.specs.declared.block_start.BlockStart.{BlockStart}
 use Rattle.node.specs.declared.served.Served.TheVariants.{Committed}
 use Rattle.node.specs.States.{State, Activity, Idle, Download, Upload, BlockDownload, BlockEnd, is_idle, named}
 use Rattle.node.specs.Steps.{Step, step, ended, dropped, refused}
-use Rattle.node.specs.Nodes.{count_modulus, dictionary_by, state_after, tick}
+use Rattle.node.specs.Nodes.{dictionary_by, state_after, tick}
 
 -- the dictionary and the node afterwards
 abbrev pub dictionary_after : List Entry → State → Option Frame → List Entry
@@ -31,7 +31,7 @@ pub record Commits (d : List Entry) (s : State) (f : Option Frame) : Type 0 wher
   pub value : List ℕ
   pub undisputed : write_verdict d multiplexor value ≡ None
   pub set : dictionary_after d s f ≡ put multiplexor value d
-  pub counted : (node_after d s f).commits ≡ (s.commits + 1) % count_modulus
+  pub counted : (node_after d s f).commits ≡ (s.commits + 1) % 65536
   pub over : (node_after d s f).activity ≡ Idle
 
 -- what serve tells as committed is one

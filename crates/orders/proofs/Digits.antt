@@ -2,7 +2,7 @@
 use Rattle.std.proofs.Common.{◌≡◌, ℕ, ◌+◌, ◌*◌, ◌/◌, ◌%◌, ◌^◌, ◌<◌, ◌≤◌, Some, ap, arith}
 use Rattle.std.proofs.lemmas.Bool.Decides.{nat_tests}
 use Rattle.wire.specs.declared.multiplexor.Multiplexor.{Multiplexor}
-use Rattle.orders.specs.Hex.{digit_value, byte_of, byte_in, multiplexor_in}
+use Rattle.orders.specs.Hex.{hex_value, byte_of, byte_in, multiplexor_in}
 use Rattle.wire.specs.Texts.{hex_digit, hex_byte, multiplexor_text}
 
 pub digit_above : (d : ℕ) → 48 ≤ hex_digit d
@@ -11,10 +11,10 @@ digit_above d = grind (arith, nat_tests)
 pub digit_below : (d : ℕ) → d < 16 → hex_digit d ≤ 70
 digit_below d h = grind (arith, nat_tests)
 
-pub digit_read : (d : ℕ) → d < 16 → digit_value (hex_digit d) ≡ Some d
+pub digit_read : (d : ℕ) → d < 16 → hex_value (hex_digit d) ≡ Some d
 digit_read d h = grind (arith, nat_tests)
 
-byte_digits : (b : ℕ) → b < 2 ^ 8 → byte_of (digit_value (hex_digit (b / 16))) (digit_value (hex_digit (b % 16))) ≡ Some b
+byte_digits : (b : ℕ) → b < 2 ^ 8 → byte_of (hex_value (hex_digit (b / 16))) (hex_value (hex_digit (b % 16))) ≡ Some b
 byte_digits b h =
     let high = digit_read (b / 16) (omega arith) in
     let low = digit_read (b % 16) (omega arith) in

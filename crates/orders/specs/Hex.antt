@@ -7,8 +7,8 @@ abbrev pub within : ℕ → ℕ → ℕ → Bool
 within low high b = nat_le low b && nat_le b high
 
 -- the value of a digit: 48 is '0', 65 is 'A', 97 is 'a'
-abbrev pub digit_value : ℕ → Option ℕ
-digit_value b = cond (within 48 57 b) (Some (b - 48)) (cond (within 65 70 b) (Some (b - 65 + 10)) (cond (within 97 102 b) (Some (b - 97 + 10)) None))
+abbrev pub hex_value : ℕ → Option ℕ
+hex_value b = cond (within 48 57 b) (Some (b - 48)) (cond (within 65 70 b) (Some (b - 65 + 10)) (cond (within 97 102 b) (Some (b - 97 + 10)) None))
 
 abbrev pub byte_of : Option ℕ → Option ℕ → Option ℕ
 byte_of (Some high) (Some low) = Some (high * 16 + low)
@@ -18,7 +18,7 @@ byte_of None None = None
 
 -- the byte that the two digits from a place on write
 abbrev pub byte_at : List ℕ → ℕ → Option ℕ
-byte_at w i = byte_of (digit_value (slice_index w i)) (digit_value (slice_index w (i + 1)))
+byte_at w i = byte_of (hex_value (slice_index w i)) (hex_value (slice_index w (i + 1)))
 
 -- the byte that a word writes
 abbrev pub byte_in : List ℕ → Option ℕ

@@ -1,19 +1,19 @@
 //! Numbers as orders write them: in hex digits of either case, the highest digit first.
 ghost use Rattle.std.specs.Prelude.{◌≡◌};
-ghost use Rattle.orders.specs.Hex.{digit_value, byte_of, byte_in, multiplexor_in};
+ghost use Rattle.orders.specs.Hex.{hex_value, byte_of, byte_in, multiplexor_in};
 
 use wire::Multiplexor;
 
 /// The value of a hex digit.
 fn digit(b: u8) -> Option<u8>
-    ensures { result ≡ digit_value b }
+    ensures { result ≡ hex_value b }
 {
     Some(char::from(b).to_digit(16)? as u8)
 }
 
 /// The byte that two hex digits write.
 fn byte(high: u8, low: u8) -> Option<u8>
-    ensures { result ≡ byte_of (digit_value high) (digit_value low) }
+    ensures { result ≡ byte_of (hex_value high) (hex_value low) }
 {
     let high = digit(high)?;
     let low = digit(low)?;

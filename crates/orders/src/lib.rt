@@ -20,4 +20,3 @@ pub use method::{method_word, read_method};
 pub use order::Order;
 pub use reading::{Reading, read_orders};
 pub use round_trip::orders_read_back;
-pub use wire::LONGEST;

@@ -1,11 +1,11 @@
 //! Lines and texts of orders, as fitters write them and as they should not.
 use master::Method;
-use orders::{BadLine, Fault, LONGEST, Order, read_line, read_orders};
+use orders::{BadLine, Fault, Order, read_line, read_orders};
 use std::alloc::Global;
 use std::fmt::Write;
 use std::process::Abort;
 use std::test::Fail;
-use wire::Multiplexor;
+use wire::{LONGEST, Multiplexor};
 
 /// Checks that an order has this address and value.
 fn check_is(
@@ -88,7 +88,7 @@ fn orders_of_few_bytes(rt: HostRuntime) -> Result<(), Fail> {
 #[test]
 fn the_longest_order(rt: HostRuntime) -> Result<(), Fail> {
     let heap = rt.alloc();
-    assert_eq!(rt; LONGEST, 1024);
+    assert_eq!(rt; 1024);
     let line = line_of(heap, 1024)?;
     check_order(&rt, heap, line.as_bytes(), 0x2001, 0, &[0xa5; 1024])
 }

@@ -1,11 +1,12 @@
 -- The register of abort codes: which layer a code belongs to that came over the line. A code that says what a
 -- dictionary has against a read or a write belongs to the dictionary, any other to the protocol.
-use Rattle.std.specs.Prelude.{◌≡◌, ℕ, Bool, true, false, cond, ◌||◌, List, [], ◌∷◌, ◌==◌}
+use Rattle.std.specs.Prelude.{◌≡◌, ℕ, true, false, cond, List, [], ◌∷◌, map, ◌==◌}
 use Rattle.wire.specs.declared.abort_code.AbortCode.{AbortCode}
 use Rattle.wire.specs.declared.abort_code.AbortCode.TheVariants.{WriteOnly, ReadOnly, NoObject, LengthTooHigh, LengthTooLow, NoSubindex, InvalidValue}
 use Rattle.register.specs.declared.layer.Layer.{Layer}
 use Rattle.register.specs.declared.layer.Layer.TheVariants.{Master, Protocol, Dictionary}
 use Rattle.wire.specs.AbortCodes.{number}
+use Rattle.wire.specs.CodeNumbers.{is_among}
 
 abbrev pub layer_number : Layer → ℕ
 layer_number Master = 1
@@ -46,11 +47,6 @@ layer_of n = layer_among register n
 abbrev pub verdicts : List AbortCode
 verdicts = NoObject ∷ NoSubindex ∷ ReadOnly ∷ WriteOnly ∷ LengthTooLow ∷ LengthTooHigh ∷ InvalidValue ∷ []
 
--- whether a number is that of one of some codes
-abbrev pub is_one_of : List AbortCode → ℕ → Bool
-is_one_of [] n = false
-is_one_of (c ∷ cs) n = n == number c || is_one_of cs n
-
 -- of all numbers just those that a dictionary's verdict can give are in layer 3, and all others in layer 2
 abbrev pub LayersTold : Type 0
-LayersTold = (n : ℕ) → (is_one_of verdicts n ≡ true → layer_of n ≡ Dictionary) × (is_one_of verdicts n ≡ false → layer_of n ≡ Protocol)
+LayersTold = (n : ℕ) → (is_among (map number verdicts) n ≡ true → layer_of n ≡ Dictionary) × (is_among (map number verdicts) n ≡ false → layer_of n ≡ Protocol)

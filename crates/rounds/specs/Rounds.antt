@@ -3,6 +3,7 @@ use Rattle.std.specs.Prelude.{◌≡◌, ℕ, ◌+◌, ◌<◌, Bool, true, fals
 use Rattle.wire.specs.declared.node_number.NodeNumber.{NodeNumber}
 use Rattle.sdo.specs.Blocks.{BlockSize}
 use Rattle.dictionary.specs.Entries.{Entry, Lawful}
+use Rattle.master.specs.Limits.{rest_ticks}
 use Rattle.master.specs.declared.heard.Heard.{Heard}
 use Rattle.master.specs.declared.heard.Heard.TheVariants as heard
 use Rattle.node.specs.declared.served.Served.{Served}
@@ -59,9 +60,9 @@ pub data Ticks : ℕ → List Act → Type 0 where
 abbrev pub resting : Outcome → ℕ
 resting Written = 0
 resting (Read n) = 0
-resting (Unwritten f) = 30
-resting (Undecided f) = 30
-resting (Unread f) = 30
+resting (Unwritten f) = rest_ticks
+resting (Undecided f) = rest_ticks
+resting (Unread f) = rest_ticks
 
 -- rounds, the settle of a ticket with a buffer, and the rest
 pub data Carries (k : ℕ) (r : Report) (buffer after : List ℕ) : List Act → Type 0 where

@@ -1,5 +1,6 @@
 //! The parts of a round, and the rest after a transfer that failed.
 ghost use Rattle.std.specs.Prelude.{◌≡◌};
+ghost use Rattle.master.specs.Limits.{rest_ticks};
 ghost use Rattle.bench.specs.Model.States.{State};
 ghost use Rattle.rounds.specs.Rounds.{ServesAll, HearsAll, Round, Ticks, Went};
 
@@ -54,7 +55,7 @@ pub fn round<B: Steppable, W: Watch<B>>(session: &mut Session<B>, watch: &mut W)
 
 /// Lets the 30 ticks pass for which a master rests after a transfer that failed.
 pub fn rest<B: Steppable, W: Watch<B>>(session: &mut Session<B>, watch: &mut W)
-    ensures went { Went (Ticks 30) (B.state session.old.bench) (B.state session.new.bench) }
+    ensures went { Went (Ticks rest_ticks) (B.state session.old.bench) (B.state session.new.bench) }
     ensures ticket { session.new.held ≡ session.old.held }
     ensures dictionary { B.dictionary session.new.bench ≡ B.dictionary session.old.bench }
 {

@@ -1,7 +1,7 @@
 //! What the lines of a script say and the calls answer, printed.
 use crate::script::Item;
 use bench::Response;
-use commands::{Begun, NotUnderstood, Settled, heard_words, served_words, tick_words};
+use commands::{BegunText, NotUnderstood, SettledText, heard_words, served_words, tick_words};
 use std::io;
 
 /// Prints a line for each call and for each line that is not understood, in their order.
@@ -26,7 +26,7 @@ pub fn print_items(rt: &HostRuntime, items: &[Item], answers: &[Response]) -> io
 /// Prints what a call answers.
 fn print_answer(rt: &HostRuntime, answer: &Response) -> io::Result<()> {
     match answer {
-        Response::Begun(begun) => println!(rt; "{}", Begun(*begun)),
+        Response::Begun(begun) => println!(rt; "{}", BegunText(*begun)),
         Response::Served(served) => {
             let words = served_words(*served);
             println!(rt; "serve: {words}")
@@ -40,7 +40,7 @@ fn print_answer(rt: &HostRuntime, answer: &Response) -> io::Result<()> {
             println!(rt; "tick: {words}")
         }
         Response::Settled { report, read } => {
-            let settled = Settled {
+            let settled = SettledText {
                 settled: *report,
                 buffer: read.as_slice(),
             };

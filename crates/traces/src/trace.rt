@@ -44,9 +44,17 @@ fn traced(multiplexor: Multiplexor, value: &[u8]) -> Bytes {
     let mut told = Bytes::new();
     for method in [Method::Expedited, Method::Segmented, Method::Block] {
         let begun = session.begin_write(method, multiplexor, value);
-        tell(&mut told, begun, carry_out(&mut session, &mut buffer));
+        tell(
+            &mut told,
+            begun,
+            carry_out(&mut session, &mut buffer, &mut Unwatched),
+        );
         let begun = session.begin_read(multiplexor);
-        tell(&mut told, begun, carry_out(&mut session, &mut buffer));
+        tell(
+            &mut told,
+            begun,
+            carry_out(&mut session, &mut buffer, &mut Unwatched),
+        );
     }
     let mut bytes = Bytes::new();
     for sent in session.bench().line().since(0) {

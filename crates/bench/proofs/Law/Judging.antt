@@ -40,8 +40,8 @@ sound_at : (m : Multiplexor) (d : List Entry) → Lawful d → SoundIf (entry_at
 sound_at m [] law = tt
 sound_at m (e ∷ es) law = cond_both (same e.at m) (Some e) (entry_at m es) SoundIf (λ yes. law.0) (λ no. sound_at m es law.2)
 
-pub value_bounded : (d : List Entry) → Lawful d → (m : Multiplexor) → read_verdict d m ≡ None → (1 ≤ length (value_at d m)) × (length (value_at d m) ≤ 1024)
-value_bounded d law m e =
+pub value_sized : (d : List Entry) → Lawful d → (m : Multiplexor) → read_verdict d m ≡ None → (1 ≤ length (value_at d m)) × (length (value_at d m) ≤ 1024)
+value_sized d law m e =
     let can = (read_decided d m).0 e in
     let sound : Sound can.entry = subst SoundIf can.there (sound_at m d law) in
     let is : value_at d m ≡ can.entry.value = ap value_of can.there in

@@ -31,7 +31,7 @@ use Rattle.node.proofs.AnswerLaws.{asks}
 use Rattle.master.specs.declared.direction.Direction.{Direction}
 use Rattle.master.specs.declared.direction.Direction.TheVariants as way
 use Rattle.bench.proofs.Law.Exchange.{order_start, verdict, Orderly, Reading, Ready, at_once, in_segments, by_block, one_more, closing, to_read, asking, Replies, refuses, sets_at_once, sets_segments, sets_block, starts, takes, gives_at_once, announces, gives, gives_last, starts_block}
-use Rattle.bench.proofs.Law.Judging.{verdict_proper, value_bounded}
+use Rattle.bench.proofs.Law.Judging.{verdict_proper, value_sized}
 use Rattle.bench.proofs.Law.Outcomes.{Served}
 
 pub toggle_itself : (t : Toggle) → same_toggle t t ≡ true
@@ -109,7 +109,7 @@ module _ (d : List Entry) (M : master.State) where
 
     serves_given : Lawful d → M.value ≡ [] → M.highest ≡ 0 → read_verdict d M.multiplexor ≡ None → Serves way.Upload awaiting.InitiateUpload (given M.multiplexor (value_at d M.multiplexor))
     serves_given law none low allowed =
-        let bounds = value_bounded d law M.multiplexor allowed in
+        let bounds = value_sized d law M.multiplexor allowed in
         let reading : Reading d M (value_at d M.multiplexor) =
         record { whole = rw none; allowed = allowed; some = bounds.0; bounded = bounds.1; asked = omega arith } in
         cond_both (fits_expedited (value_at d M.multiplexor)) _ _ (Serves way.Upload awaiting.InitiateUpload)

@@ -10,7 +10,7 @@ use wire::Frame;
 
 /// Does on the line what the master wants: it is quieted first, or not, and then frames are sent to the node.
 #[inline(always)]
-pub(super) fn carry_out<L: Line>(line: &mut L, sending: Sending)
+pub(super) fn put_on_line<L: Line>(line: &mut L, sending: Sending)
     ensures { (ls : List Bool) × (L.Line.shows line.new ≡ carried (shown_sending sending.entry) ls (L.Line.shows line.old)) }
 {
     if sending.quiet {
