@@ -6,8 +6,8 @@ ghost use Rattle.commands.specs.Lines.{line_ordered};
 use line::{NamedLine, Recorder};
 use std::fmt;
 
-/// How many frames a line of a program keeps: more than are sent from one look at it to the next. These are 300 at most where the node takes frames,
-/// and 1,300 where the master does, which are all that it sends in a transfer.
+/// How many frames a line of a program keeps: more than are sent from one look at it to the next. In a round these are 301 at most of the node,
+/// one for each serve and one in the tick, and 1,300 of the master, which are all that it sends in a transfer.
 const KEPT: usize = 2_048;
 
 /// A line of a program, which keeps the last 2,048 frames that were sent.

@@ -88,7 +88,7 @@ fn orders_of_few_bytes(rt: HostRuntime) -> Result<(), Fail> {
 #[test]
 fn the_longest_order(rt: HostRuntime) -> Result<(), Fail> {
     let heap = rt.alloc();
-    assert_eq!(rt; 1024);
+    assert_eq!(rt; LONGEST, 1024);
     let line = line_of(heap, 1024)?;
     check_order(&rt, heap, line.as_bytes(), 0x2001, 0, &[0xa5; 1024])
 }
