@@ -55,6 +55,11 @@ module _ (m : Multiplexor) (v : List ℕ) where
   pub reads_more : (n good : ℕ) (told : Bool) (zs us : List Act) → Reads m v n good zs → OneTold is_read m Read told us → Reads m v (n + 1) (good + cond told 1 0) (zs ++ us)
   reads_more n good told zs us all one = (all.0, all.1 ++ us, all.2, counted_more is_read m Read n good told all.1 us all.3 one, ap (λ xs. xs ++ us) all.4 ∙ append_assoc all.0 all.1 us)
 
+-- where a bench went by so many transfers, it goes by one more with one behind them
+pub went_more : (many : ℕ → ℕ → List Act → Type 0) (one : Bool → List Act → Type 0) → ((n good : ℕ) (told : Bool) (xs ys : List Act) → many n good xs → one told ys → many (n + 1) (good + cond told 1 0) (xs ++ ys)) → (n good now : ℕ) (told : Bool) (s t u : State) → now ≡ good + cond told 1 0 → Went (many n good) s t → Went (one told) t u → Went (many (n + 1) now) s u
+went_more many one joined n good now told s t u added before last =
+    subst (λ k. Went (many (n + 1) k) s u) (sym added) (went_on (many n good) (one told) (many (n + 1) (good + cond told 1 0)) s t u (λ xs ys all new. joined n good told xs ys all new) before last)
+
 -- what a transfer that told such an outcome adds, and one that did not
 pub adds_one : (told : Bool) (good now : ℕ) → told ≡ true → now ≡ good + 1 → now ≡ good + cond told 1 0
 adds_one told good now is higher = subst (λ b. now ≡ good + cond b 1 0) (sym is) higher

@@ -1,4 +1,4 @@
-use Rattle.std.proofs.Common.{◌≡◌, ◌+◌, cond, sym, ap, ◌∙◌, subst, arith}
+use Rattle.std.proofs.Common.{◌≡◌, ◌+◌, cond, ap, ◌∙◌, subst, arith}
 use Rattle.wire.specs.declared.multiplexor.Multiplexor.{Multiplexor}
 use Rattle.dictionary.specs.Tables.{table_entries}
 use Rattle.master.specs.Calls.{Read, Write}
@@ -7,9 +7,9 @@ use Rattle.bench.specs.Model.States.{fresh}
 use Rattle.bench.specs.Numbers.{nearest_number, nearest_size}
 use Rattle.bench.specs.States.{state_of}
 use Rattle.rounds.specs.Rounds.{Went}
-use Rattle.rounds.proofs.Went.{went_on, went_as}
+use Rattle.rounds.proofs.Went.{went_as}
 use Rattle.exports.specs.Transfers.{OneTold, Reads, is_written, is_read, new_bench}
-use Rattle.exports.proofs.Joining.{reads_none, reads_more, adds_one, adds_none}
+use Rattle.exports.proofs.Joining.{reads_none, reads_more, went_more, adds_one, adds_none}
 use Rattle.exports.proofs.transfers.wontazhil_reads.Goals as goal
 use Rattle.exports.proofs.transfers.wontazhil_reads.Goals.{then-read, else-read}
 
@@ -44,7 +44,7 @@ loop-done-preserved c =
         | then-read w ↦ (let is = w.good-is in omega arith)
         | else-read w ↦ (let is = w.good-is in omega arith)
       ];
-      told = subst (λ k. Went (Reads m v (n + 1) k) new_bench t) (sym added) (went_on (Reads m v n good) (OneTold is_read m Read told) (Reads m v (n + 1) (good + cond told 1 0)) new_bench s t (λ xs ys all one. reads_more m v n good told xs ys all one) c.loop-done.invariant.told c.read.ensures.went);
+      told = went_more (Reads m v) (OneTold is_read m Read) (reads_more m v) n good c.if-read.good told new_bench s t added c.loop-done.invariant.told c.read.ensures.went;
       ticket = c.read.ensures.ticket;
     }
 

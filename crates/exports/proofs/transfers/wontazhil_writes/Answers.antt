@@ -6,9 +6,9 @@ use Rattle.bench.specs.Model.States.{fresh}
 use Rattle.bench.specs.Numbers.{nearest_number, nearest_size}
 use Rattle.bench.specs.States.{state_of}
 use Rattle.rounds.specs.Rounds.{Went}
-use Rattle.rounds.proofs.Went.{went_nowhere, went_on}
+use Rattle.rounds.proofs.Went.{went_nowhere}
 use Rattle.exports.specs.Transfers.{OneTold, Writes, is_written, new_bench}
-use Rattle.exports.proofs.Joining.{counted_none, counted_more, adds_one, adds_none}
+use Rattle.exports.proofs.Joining.{counted_none, counted_more, went_more, adds_one, adds_none}
 use Rattle.exports.proofs.transfers.wontazhil_writes.Goals as goal
 use Rattle.exports.proofs.transfers.wontazhil_writes.Goals.{then-write, else-write}
 
@@ -44,7 +44,7 @@ loop-done-preserved c =
         | then-write w ↦ (let is = w.good-is in omega arith)
         | else-write w ↦ (let is = w.good-is in omega arith)
       ];
-      told = subst (λ k. Went (Writes m how v (n + 1) k) new_bench t) (sym added) (went_on (Writes m how v n good) (OneTold is_written m (Write how v) told) (Writes m how v (n + 1) (good + cond told 1 0)) new_bench s t (λ xs ys all one. counted_more is_written m (Write how v) n good told xs ys all one) c.loop-done.invariant.told c.write.ensures.went);
+      told = went_more (Writes m how v) (OneTold is_written m (Write how v)) (counted_more is_written m (Write how v)) n good c.if-write.good told new_bench s t added c.loop-done.invariant.told c.write.ensures.went;
       ticket = c.write.ensures.ticket;
     }
 
