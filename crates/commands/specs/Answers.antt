@@ -1,6 +1,9 @@
--- What is printed of a line that is no command, and of how a transfer began and ended.
-use Rattle.std.specs.Prelude.{ℕ, List, ◌++◌, codes, decimal, take, Ok, Err, Result}
+-- What is printed of a line that is no command, of how a transfer began and ended, and of an entry.
+use Rattle.std.specs.Prelude.{ℕ, List, [], ◌++◌, codes, decimal, take, Some, None, Option, Ok, Err, Result}
+use Rattle.wire.specs.declared.multiplexor.Multiplexor.{Multiplexor}
 use Rattle.wire.specs.Texts.{multiplexor_text, code_text}
+use Rattle.dictionary.specs.declared.attributes.Attributes.{Attributes}
+use Rattle.dictionary.specs.Accesses.{number}
 use Rattle.register.specs.Layers.{layer_number}
 use Rattle.master.specs.declared.refusal.BeginRefusal.{BeginRefusal}
 use Rattle.master.specs.Refusals.{begin_number}
@@ -33,3 +36,12 @@ outcome_text (Unread failure) buffer = codes "Unread " ++ failure_text failure
 abbrev pub settled : Result Report SettleRefusal → List ℕ → List ℕ
 settled (Ok report) buffer = codes "settle: " ++ outcome_text report.outcome buffer
 settled (Err refusal) buffer = codes "settle: refused " ++ decimal (settle_number refusal)
+
+-- the value of an entry, where it can be read
+abbrev pub value_text : Option (List ℕ) → List ℕ
+value_text None = []
+value_text (Some v) = codes " value " ++ bytes_alone v
+
+-- an entry as it is listed
+abbrev pub entry_text : Multiplexor → Attributes → Option (List ℕ) → List ℕ
+entry_text m a v = codes "entry " ++ (multiplexor_text m ++ (codes " access " ++ (decimal (number a.access) ++ (codes " length " ++ (decimal a.shortest ++ (codes " to " ++ (decimal a.longest ++ value_text v)))))))

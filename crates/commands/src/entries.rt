@@ -1,7 +1,11 @@
 //! A dictionary's entries as text.
+ghost use Rattle.std.specs.Prelude.{Some};
+ghost use Rattle.std.specs.Option.{option_map};
+ghost use Rattle.commands.specs.Answers.{entry_text};
+
 use dictionary::{Attributes, Readable};
 use orders::HexBytes;
-use std::{io, iter};
+use std::{fmt, io, iter};
 use wire::{LONGEST, Multiplexor};
 
 /// The lowest multiplexor of all.
@@ -24,24 +28,46 @@ pub fn print_entries<D: Readable>(rt: &HostRuntime, dictionary: &D) -> io::Resul
     Ok(())
 }
 
-/// Prints one entry: its multiplexor, its access, its lengths and its value, where it can be read.
+/// Prints one entry, its value where it can be read.
 fn print_entry<D: Readable>(
     rt: &HostRuntime,
     dictionary: &D,
     multiplexor: Multiplexor,
     attributes: Attributes,
 ) -> io::Result<()> {
-    let access = u8::from(attributes.access);
-    let shortest = attributes.shortest;
-    let longest = attributes.longest;
-    print!(rt; "entry {multiplexor} access {access} length {shortest} to {longest}")?;
     let mut buffer = [0; LONGEST];
-    match dictionary.copy_value(multiplexor, &mut buffer) {
-        Ok(length) => {
-            let value = HexBytes(&buffer[0..length]);
-            println!(rt; " value {value}")?
+    let copied = dictionary.copy_value(multiplexor, &mut buffer);
+    let entry = EntryText {
+        multiplexor,
+        attributes,
+        value: copied.ok().map(|length| &buffer[0..length]),
+    };
+    println!(rt; "{entry}")
+}
+
+/// An entry as it is listed: its multiplexor, its access, its lengths, and its value where it can be read.
+#[derive(Clone, Copy)]
+struct EntryText<'a> {
+    multiplexor: Multiplexor,
+    attributes: Attributes,
+    value: Option<&'a [u8]>,
+}
+
+impl fmt::Display for EntryText<'_> {
+    ghost output = { λ e. Some (entry_text e.multiplexor e.attributes (option_map (λ v. v.now) e.value)) };
+
+    fn fmt<W: fmt::Write>(&self, f: &mut fmt::Formatter<W>) -> fmt::Result {
+        let multiplexor = self.multiplexor;
+        let access = u8::from(self.attributes.access);
+        let shortest = self.attributes.shortest;
+        let longest = self.attributes.longest;
+        write!(
+            f,
+            "entry {multiplexor} access {access} length {shortest} to {longest}"
+        )?;
+        match self.value {
+            Some(value) => write!(f, " value {}", HexBytes(value)),
+            None => Ok(()),
         }
-        Err(_) => println!(rt; "")?,
     }
-    Ok(())
 }
