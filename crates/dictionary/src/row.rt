@@ -1,6 +1,5 @@
 //! Where a table keeps one entry.
 ghost use Rattle.std.specs.Prelude.{◌≡◌};
-ghost use Rattle.wire.proofs.Multiplexors.{connected as one_before_the_other};
 ghost use Rattle.dictionary.specs.Layouts.{vacant};
 
 use crate::access::Access;
@@ -44,6 +43,4 @@ impl Keyed for Row {
     fn key(&self) -> Multiplexor {
         self.multiplexor
     }
-
-    ghost connected = { one_before_the_other };
 }

@@ -1,6 +1,4 @@
 //! Values found by their multiplexors.
-ghost use Rattle.wire.proofs.Multiplexors.{connected as one_before_the_other};
-
 use search::{Keyed, place};
 use wire::Multiplexor;
 
@@ -19,8 +17,6 @@ impl Keyed for Held {
     fn key(&self) -> Multiplexor {
         self.at
     }
-
-    ghost connected = { one_before_the_other };
 }
 
 /// The value at a multiplexor, among some.

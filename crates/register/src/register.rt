@@ -1,6 +1,5 @@
 //! The register of abort codes: the layer that each belongs to.
 ghost use Rattle.std.specs.Prelude.{◌≡◌};
-ghost use Rattle.search.proofs.Ordering.{numbers_connected};
 ghost use Rattle.wire.specs.AbortCodes.{number};
 ghost use Rattle.register.specs.Layers.{layer_of};
 
@@ -20,8 +19,6 @@ impl Keyed for Registered {
     fn key(&self) -> u32 {
         self.0
     }
-
-    ghost connected = { numbers_connected };
 }
 
 /// The rows of the register, rising by number.

@@ -1,7 +1,4 @@
 //! Rows found by their keys: counts by code.
-ghost use Rattle.std.proofs.Math.Nat.{le_antisymm};
-ghost use Rattle.std.proofs.lemmas.Map.Keys.{ge_from_not_lt};
-
 use crate::binary::{count_before, place};
 use crate::keyed::Keyed;
 
@@ -20,8 +17,6 @@ impl Keyed for Seen {
     fn key(&self) -> u32 {
         self.code
     }
-
-    ghost connected = { λ a b p q. le_antisymm (ge_from_not_lt b a q) (ge_from_not_lt a b p) };
 }
 
 /// How often a code was seen, among some.
