@@ -15,6 +15,9 @@ use master::Method;
 use std::alloc::Global;
 use wire::{LONGEST, Multiplexor};
 
+/// Bytes of an order whose line is still read: memory is asked for only once the line is known to be an order.
+pub(crate) type Scratch = ArrayVec<u8, LONGEST>;
+
 /// Whether a line is a comment.
 fn is_comment(line: &[u8]) -> bool
     ensures { result ≡ is_comment line.now }
@@ -29,15 +32,16 @@ pub fn without_return(line: &[u8]) -> &[u8]
     line.strip_suffix(b"\r").unwrap_or(line)
 }
 
-/// The bytes that words write.
+/// Puts the bytes that words write in place of what was there.
 fn read_bytes<'a, W: Iterator<Item = &'a [u8]> + Drop>(
+    bytes: &mut Scratch,
     words: W,
-) -> Result<ArrayVec<u8, LONGEST>, Fault>
+) -> Result<(), Fault>
     requires can { W.can_next words }
     requires ends { IsFinite (W.remaining words) }
-    ensures { (ws : List (List ℕ)) → AlwaysYields W.next_gives (λ w. w.now) words ws → MatchResult result (λ bytes. value_in ws ≡ Ok bytes.items) (λ f. value_in ws ≡ Err f) }
+    ensures { (ws : List (List ℕ)) → AlwaysYields W.next_gives (λ w. w.now) words ws → MatchResult result (λ done. value_in ws ≡ Ok bytes.new.items) (λ f. value_in ws ≡ Err f) }
 {
-    let mut bytes = ArrayVec::<u8, LONGEST>::new();
+    bytes.clear();
     for word in words {
         let byte = read_byte(word).ok_or(Fault::NotByte(bytes.len() + 1))?;
         bytes.try_push(byte).map_err(|_| Fault::TooManyBytes)?;
@@ -45,7 +49,7 @@ fn read_bytes<'a, W: Iterator<Item = &'a [u8]> + Drop>(
     if bytes.is_empty() {
         return Err(Fault::NoBytes);
     }
-    Ok(bytes)
+    Ok(())
 }
 
 /// The order of a value, unless the method has no room for it.
@@ -72,6 +76,7 @@ fn order_of(
 /// The order that a word and those behind it write, whose method is named or not.
 fn read_rest<'a, W: Iterator<Item = &'a [u8]> + Drop>(
     heap: Global,
+    scratch: &mut Scratch,
     named: Option<Method>,
     word: &[u8],
     rest: W,
@@ -81,12 +86,12 @@ fn read_rest<'a, W: Iterator<Item = &'a [u8]> + Drop>(
     ensures { (ws : List (List ℕ)) → AlwaysYields W.next_gives (λ w. w.now) rest ws → ReadsOrder result (order_at named (multiplexor_in word.now) ws) }
 {
     let multiplexor = read_multiplexor(word).ok_or(Fault::NotMultiplexor)?;
-    let bytes = read_bytes(rest)?;
-    order_of(heap, named, multiplexor, bytes.as_slice())
+    read_bytes(scratch, rest)?;
+    order_of(heap, named, multiplexor, scratch.as_slice())
 }
 
 /// The order that the words of a line write, or none where there are no words.
-fn read_order(heap: Global, line: &[u8]) -> Result<Option<Order>, Fault>
+fn read_order(heap: Global, scratch: &mut Scratch, line: &[u8]) -> Result<Option<Order>, Fault>
     ensures { Reads result (order_in (words line.now)) }
 {
     let mut words = line
@@ -97,18 +102,32 @@ fn read_order(heap: Global, line: &[u8]) -> Result<Option<Order>, Fault>
     };
     let named = read_method(first);
     if named.is_none() {
-        return Ok(Some(read_rest(heap, None, first, words)?));
+        return Ok(Some(read_rest(heap, scratch, None, first, words)?));
     }
     let second = words.next().ok_or(Fault::NotMultiplexor)?;
-    Ok(Some(read_rest(heap, named, second, words)?))
+    Ok(Some(read_rest(heap, scratch, named, second, words)?))
 }
 
 /// The order on a line, or none on a line to pass over; else the `Fault` that is met first, which may be want of memory.
 pub fn read_line(heap: Global, line: &[u8]) -> Result<Option<Order>, Fault>
     ensures { Reads result (line_meaning line.now) }
 {
-    if is_comment(line) {
+    if line.is_empty() || is_comment(line) {
         return Ok(None);
     }
-    read_order(heap, without_return(line))
+    read_order(heap, &mut Scratch::new(), without_return(line))
+}
+
+/// The same, with bytes that it may use; what it leaves in them is of no use to anyone.
+pub(crate) fn read_line_with(
+    heap: Global,
+    scratch: &mut Scratch,
+    line: &[u8],
+) -> Result<Option<Order>, Fault>
+    ensures { Reads result (line_meaning line.now) }
+{
+    if line.is_empty() || is_comment(line) {
+        return Ok(None);
+    }
+    read_order(heap, scratch, without_return(line))
 }

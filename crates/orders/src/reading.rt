@@ -6,7 +6,7 @@ ghost use Rattle.orders.specs.Texts.{Adds, content, orders_in, bad_in, all_or_no
 
 use crate::bad_line::BadLine;
 use crate::fault::Fault;
-use crate::line::read_line;
+use crate::line::{Scratch, read_line_with};
 use crate::order::Order;
 use std::alloc::{AllocError, Global};
 
@@ -27,10 +27,16 @@ impl Reading {
     }
 
     /// Adds what a line says.
-    fn add_line(&mut self, heap: Global, number: usize, line: &[u8]) -> Result<(), AllocError>
+    fn add_line(
+        &mut self,
+        heap: Global,
+        scratch: &mut Scratch,
+        number: usize,
+        line: &[u8],
+    ) -> Result<(), AllocError>
         ensures { OnOk result (Adds number (line_meaning line.now) self.old self.new) }
     {
-        match read_line(heap, line) {
+        match read_line_with(heap, scratch, line) {
             Ok(None) => {}
             Ok(Some(order)) => self.orders.push(order)?,
             Err(Fault::OutOfMemory) => return Err(AllocError),
@@ -53,8 +59,9 @@ pub fn read_orders(heap: Global, text: &[u8]) -> Result<Reading, AllocError>
         orders: Vec::new(heap),
         bad: Vec::new(heap),
     };
+    let mut scratch = Scratch::new();
     for (number, line) in (1..).zip(text.split(|b| *b == b'\n')) {
-        reading.add_line(heap, number, line)?;
+        reading.add_line(heap, &mut scratch, number, line)?;
     }
     Ok(reading)
 }
