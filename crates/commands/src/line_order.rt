@@ -33,7 +33,7 @@ impl LineOrder {
     /// The line that is ordered, on which nothing was sent yet.
     pub fn line(self) -> RecordedLine
         ensures below { result.line ≡ line_ordered self.kind self.pattern }
-        ensures nothing { result.kept.items ≡ [] }
+        ensures nothing { result.kept ≡ [] }
         ensures none { result.sent ≡ 0 }
     {
         Recorder::new(match self.kind {

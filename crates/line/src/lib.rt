@@ -4,6 +4,7 @@
 mod bounded_line;
 mod drop_layer;
 mod end;
+mod kept;
 mod line;
 mod named_line;
 mod pattern;

@@ -4,17 +4,17 @@ ghost use Rattle.line.specs.Meanings.{sent, handed_out, taken, quieted};
 ghost use Rattle.line.specs.Records.{newest, counted, NewestOfAll};
 
 use crate::end::End;
+use crate::kept::Kept;
 use crate::line::Line;
 use crate::recording::Recording;
 use crate::sent::Sent;
-use arrayvec::ArrayVec;
 use wire::Frame;
 
 /// A line that keeps the last `ROOM` frames that were sent, lost or not, and counts all of them.
 #[derive(Drop)]
 pub struct Recorder<L: Line, const ROOM: usize> {
     line: L,
-    kept: ArrayVec<Sent, ROOM>,
+    kept: Kept<ROOM>,
     sent: u64,
 }
 
@@ -22,27 +22,24 @@ impl<L: Line, const ROOM: usize> Recorder<L, ROOM> {
     /// A layer over a line on which no frame was sent yet. Frame by frame it keeps the newest of all that were sent.
     pub fn new(line: L) -> Self
         ensures below { result.line ≡ line }
-        ensures nothing { result.kept.items ≡ [] }
+        ensures nothing { result.kept ≡ [] }
         ensures none { result.sent ≡ 0 }
         ensures newest_of_all { NewestOfAll }
     {
         Recorder {
             line,
-            kept: ArrayVec::new(),
+            kept: Kept::new(),
             sent: 0,
         }
     }
 
     /// Keeps one frame more, and lets the oldest go where there is no room.
     fn record(&mut self, sent: Sent)
-        ensures kept { self.new.kept.items ≡ newest ROOM (self.old.kept.items ++ sent ∷ []) }
+        ensures kept { self.new.kept ≡ newest ROOM (self.old.kept ++ sent ∷ []) }
         ensures count { self.new.sent ≡ counted self.old.sent }
         ensures stays { self.new.line ≡ self.old.line }
     {
-        if self.kept.is_full() {
-            let _ = self.kept.pop_at(0);
-        }
-        let _ = self.kept.try_push(sent);
+        self.kept.put(sent);
         self.sent = self.sent.saturating_add(1);
     }
 }
@@ -53,7 +50,7 @@ impl<L: Line, const ROOM: usize> Line for Recorder<L, ROOM> {
 
     fn send(&mut self, to: End, frame: Frame)
         ensures sends { (lost : Bool) × (L.Line.shows self.new.line ≡ sent to frame lost (L.Line.shows self.old.line)) }
-        ensures kept { self.new.kept.items ≡ newest ROOM (self.old.kept.items ++ record { to = to; frame = frame } ∷ []) }
+        ensures kept { self.new.kept ≡ newest ROOM (self.old.kept ++ record { to = to; frame = frame } ∷ []) }
         ensures count { self.new.sent ≡ counted self.old.sent }
     {
         self.record(Sent { to, frame });
@@ -80,7 +77,7 @@ impl<L: Line, const ROOM: usize> Line for Recorder<L, ROOM> {
 
 /// It keeps up to `ROOM` frames.
 impl<L: Line, const ROOM: usize> Recording for Recorder<L, ROOM> {
-    ghost frames_kept = { λ r. r.kept.items };
+    ghost frames_kept = { λ r. r.kept };
 
     ghost frames_sent = { λ r. r.sent };
 
