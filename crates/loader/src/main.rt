@@ -5,6 +5,7 @@ mod loading;
 mod options;
 mod sheet;
 mod trace;
+mod valued;
 mod values;
 
 use anyhow::{Context, bail, ensure};

@@ -1,4 +1,5 @@
 //! What the command line asks for.
+use crate::valued::Valued;
 use crate::values::{read_device, read_drop, read_line_kind, read_number};
 use anyhow::{bail, ensure};
 use commands::{BenchOrder, DeviceKind, LineKind, LineOrder};
@@ -38,84 +39,52 @@ impl<'a> Options<'a> {
 
     /// The options after further words; a word that is not understood is an error.
     fn changed(mut self, words: &[&'a str]) -> anyhow::Result<Options<'a>> {
-        let rest = match words {
-            [] => return Ok(self),
-            ["--help" | "-h", rest @ ..] => {
-                self.help = true;
-                rest
-            }
-            ["--device", name, rest @ ..] => {
-                let device = read_device(name)?;
-                self.bench = BenchOrder {
-                    device,
-                    ..self.bench
-                };
-                rest
-            }
-            ["--line", name, rest @ ..] => {
-                let kind = read_line_kind(name)?;
-                let line = LineOrder {
-                    kind,
-                    ..self.bench.line
-                };
-                self.bench = BenchOrder { line, ..self.bench };
-                rest
-            }
-            ["--drop", digits, rest @ ..] => {
-                let pattern = read_drop(digits)?;
-                let line = LineOrder {
-                    pattern,
-                    ..self.bench.line
-                };
-                self.bench = BenchOrder { line, ..self.bench };
-                rest
-            }
-            ["--node", digits, rest @ ..] => {
-                let node = read_number("--node", digits)?;
-                self.bench = BenchOrder { node, ..self.bench };
-                rest
-            }
-            ["--block", digits, rest @ ..] => {
-                let block_size = read_number("--block", digits)?;
-                self.bench = BenchOrder {
-                    block_size,
-                    ..self.bench
-                };
-                rest
-            }
-            ["--trace", path, rest @ ..] => {
-                self.trace = Some(path);
-                rest
-            }
-            [word, rest @ ..] => {
-                self.orders = Some(self.orders_file(word)?);
-                rest
-            }
-        };
-        self.changed(rest)
+        let mut before = None;
+        for word in words {
+            before = match before {
+                Some(option) => {
+                    self.set(option, word)?;
+                    None
+                }
+                None => self.take(word)?,
+            };
+        }
+        match before {
+            Some(option) => bail!("{option} is not followed by a value, try --help"),
+            None => Ok(self),
+        }
     }
 
-    /// The word as the file of the orders, unless it is an option or a file is named already.
-    fn orders_file(self, word: &'a str) -> anyhow::Result<&'a str> {
-        ensure!(
-            !takes_value(word),
-            "{word} is not followed by a value, try --help"
-        );
+    /// Takes a word that is not the value of an option, and hands it back where it is an option that has a value.
+    fn take(&mut self, word: &'a str) -> anyhow::Result<Option<Valued>> {
+        if let "--help" | "-h" = word {
+            self.help = true;
+            return Ok(None);
+        }
+        if let Some(option) = Valued::named(word) {
+            return Ok(Some(option));
+        }
         ensure!(
             word == "-" || !word.starts_with('-'),
             "unknown option {word}, try --help"
         );
-        match self.orders {
-            None => Ok(word),
-            Some(first) => bail!("a second file of orders, {word} after {first}, try --help"),
+        if let Some(first) = self.orders {
+            bail!("a second file of orders, {word} after {first}, try --help");
         }
+        self.orders = Some(word);
+        Ok(None)
     }
-}
 
-/// Whether a word is an option that has a value behind it.
-fn takes_value(word: &str) -> bool {
-    matches!(
-        word,
-        "--device" | "--line" | "--drop" | "--node" | "--block" | "--trace"
-    )
+    /// Takes the value of an option.
+    fn set(&mut self, option: Valued, value: &'a str) -> anyhow::Result<()> {
+        match option {
+            Valued::Device => self.bench.device = read_device(value)?,
+            Valued::Line => self.bench.line.kind = read_line_kind(value)?,
+            Valued::Drop => self.bench.line.pattern = read_drop(value)?,
+            Valued::Node => self.bench.node = read_number("--node", value)?,
+            Valued::Block => self.bench.block_size = read_number("--block", value)?,
+            Valued::Trace => self.trace = Some(value),
+        }
+        Ok(())
+    }
 }
