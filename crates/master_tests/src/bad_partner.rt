@@ -148,13 +148,15 @@ fn a_late_answer_is_dropped(rt: HostRuntime) -> Result<(), Fail> {
 #[test]
 fn an_abort_ends_any_transfer(rt: HostRuntime) -> Result<(), Fail> {
     for (awaited, _) in ALL_AWAITED {
-        let mut master = awaiting(awaited)?;
-        let hearing = hear(&mut master, [0x9f, 0, 0, 0, 2, 0, 1, 6]);
-        assert!(rt; hearing.heard == Heard::Over && hearing.sending.quiet);
-        check_frames(&rt, hearing.sending.frames, &[])?;
-        let failure = failure(&master)?;
-        assert!(rt; failure.code == AbortCode::ReadOnly);
-        assert!(rt; failure.finder == Finder::Node && !failure.may_be_set);
+        for command in [0x80, 0x9f] {
+            let mut master = awaiting(awaited)?;
+            let hearing = hear(&mut master, [command, 0, 0, 0, 2, 0, 1, 6]);
+            assert!(rt; hearing.heard == Heard::Over && hearing.sending.quiet);
+            check_frames(&rt, hearing.sending.frames, &[])?;
+            let failure = failure(&master)?;
+            assert!(rt; failure.code == AbortCode::ReadOnly);
+            assert!(rt; failure.finder == Finder::Node && !failure.may_be_set);
+        }
     }
     Ok(())
 }

@@ -1,7 +1,7 @@
 //! What became of a frame that a node took.
 
 /// The first of these that fits.
-#[derive(Clone, Copy, PartialEq)]
+#[derive(Clone, Copy, PartialEq, Eq, Debug)]
 pub enum Served {
     /// There was no frame.
     NothingWaited,

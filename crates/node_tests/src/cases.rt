@@ -182,6 +182,7 @@ pub(crate) static CASES: [Case; 58] = [
         turns: &[
             Turn(0x40_001000_00000000, Answered, Some(0x43_001000_92010200)),
             Turn(0x23_001000_91010200, Aborted, Some(0x80_001000_02000106)),
+            Turn(0x23_001000_01020304, Aborted, Some(0x80_001000_02000106)),
         ],
     },
     Case {
@@ -197,7 +198,9 @@ pub(crate) static CASES: [Case; 58] = [
         state: IDLE,
         turns: &[
             Turn(0x40_091000_00000000, Aborted, Some(0x80_091000_00000206)),
+            Turn(0x40_012009_00000000, Aborted, Some(0x80_012009_11000906)),
             Turn(0x20_002002_00000000, Aborted, Some(0x80_002002_11000906)),
+            Turn(0x2f_003009_00000000, Aborted, Some(0x80_003009_00000206)),
             Turn(0xc4_001000_00000000, Aborted, Some(0x80_001000_02000106)),
         ],
     },

@@ -3,7 +3,7 @@ use sdo::{Answer, ExpeditedData, Request, Transfer};
 use std::fmt::Write;
 use std::process::Abort;
 use std::test::Fail;
-use wire::{AbortCode, Multiplexor, NodeNumber};
+use wire::{AbortCode, Identifier, Multiplexor, NodeNumber};
 
 const RAMP: Multiplexor = Multiplexor {
     index: 0x2000,
@@ -135,6 +135,12 @@ fn frames_are_written_as_candump_writes_them(rt: HostRuntime) -> Result<(), Fail
     assert_eq!(rt; format!(in heap; "{code}")?.as_str(), "0609 0011");
     assert_eq!(rt; format!(in heap; "{RAMP}")?.as_str(), "2000:01");
     Ok(())
+}
+
+#[test]
+fn identifiers_have_eleven_bits(rt: HostRuntime) {
+    assert!(rt; Identifier::new(2047).is_some());
+    assert!(rt; Identifier::new(2048).is_none());
 }
 
 #[test]
