@@ -1,6 +1,7 @@
 -- What is found in a table's rows is what is found in its entries.
 use native.Mathlib.Numerals.{unary_clauses}
 use Rattle.std.specs.Borrow.{Bor}
+use Rattle.std.specs.List.{list_any, position_from}
 use Rattle.std.specs.Option.{IfSome, is_some, option_map, option_copied}
 use Rattle.std.proofs.Common.{◌≡◌, ℕ, zero, suc, ◌+◌, ◌-◌, ◌<◌, ◌≤◌, Bool, true, false, eqb, ltb, List, [], ◌∷◌, get_or, slice_get, length, Some, None, Option, sym, refl, ap, ◌∙◌, arith}
 use Rattle.std.proofs.lemmas.Bool.{cond-true, cond-false, ltb-true, ltb-false}
@@ -24,10 +25,18 @@ use Rattle.dictionary.specs.Tables.{table_entries}
 abbrev pub at : Row → Multiplexor
 at r = r.multiplexor
 
+-- whether a row has a multiplexor
+abbrev pub is_at : Multiplexor → Row → Bool
+is_at m r = same (at r) m
+
+-- whether a row has an index
+abbrev pub is_of : ℕ → Row → Bool
+is_of i r = eqb (at r).index i
+
 -- whether some row is there and has an index
 abbrev pub has_one : ℕ → Option Row → Bool
 has_one i None = false
-has_one i (Some r) = eqb (at r).index i
+has_one i (Some r) = is_of i r
 
 -- the row that is found at a place
 pub got : (rows : List Row) (n : ℕ) (o : Option (Bor Row)) → is_some o ≡ ltb n (length rows) → IfSome o (λ r. r.now ≡ get_or rows n r.now) → option_copied o ≡ slice_get rows n
@@ -54,6 +63,16 @@ module _ (bytes : List ℕ) where
   index_there i (r ∷ rs) (suc n) up parts =
       let low = parts.below 0 r (omega arith) in
       let ih = index_there i rs n up.1 (parts_rest parts) in grind (arith, nat_tests, low, ih)
+
+  -- an index is found where some row has it
+  pub index_of_any : (i : ℕ) (rows : List Row) → list_any (is_of i) rows ≡ has_index i (entries bytes rows)
+  index_of_any i [] = refl
+  index_of_any i (r ∷ rs) = let ih = index_of_any i rs in grind (arith, nat_tests, ih)
+
+  -- the first row with a multiplexor has the place of its entry
+  pub walk_alike : (rows : List Row) (n : ℕ) (m : Multiplexor) → position_from (is_at m) n rows ≡ place_from n m (entries bytes rows)
+  walk_alike [] n m = refl
+  walk_alike (r ∷ rs) n m = let ih = walk_alike rs (n + 1) m in grind (arith, nat_tests, ih)
 
   -- the place of a row is that of its entry
   place_alike : (rows : List Row) (n : ℕ) (m : Multiplexor) → search.place_from before at n m rows ≡ place_from n m (entries bytes rows)

@@ -153,3 +153,33 @@ fn entries_are_found_one_after_the_other(rt: HostRuntime) {
     assert_eq!(rt; u8::from(Access::ReadWrite), 3);
     assert_eq!(rt; table.attributes(at(0x2001, 1)), Err(AbortCode::NoSubindex));
 }
+
+/// The attributes of the entry at an index in a table of so many.
+fn of_index(index: u8) -> Attributes {
+    both(1, u16::from(index) + 2)
+}
+
+/// A table with so many entries, at subindex 1 of the indices from 1 on.
+fn of_entries(count: u8) -> Table {
+    let mut table = Table::new();
+    for index in 1..=count {
+        let _ = table.add(at(u16::from(index), 1), of_index(index), &[0]);
+    }
+    table
+}
+
+#[test]
+fn entries_are_found_in_small_and_large_tables(rt: HostRuntime) {
+    for count in [0, 1, 2, 23, 24, 25, 26, 63, 64] {
+        let table = of_entries(count);
+        for index in 1..=count {
+            let here = u16::from(index);
+            assert_eq!(rt; table.attributes(at(here, 1)), Ok(of_index(index)));
+            assert_eq!(rt; table.attributes(at(here, 0)), Err(AbortCode::NoSubindex));
+            assert_eq!(rt; table.attributes(at(here, 2)), Err(AbortCode::NoSubindex));
+        }
+        let behind = u16::from(count) + 1;
+        assert_eq!(rt; table.attributes(at(0, 1)), Err(AbortCode::NoObject));
+        assert_eq!(rt; table.attributes(at(behind, 1)), Err(AbortCode::NoObject));
+    }
+}

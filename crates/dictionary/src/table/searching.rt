@@ -2,6 +2,7 @@
 ghost use Rattle.std.specs.Prelude.{◌≡◌, slice_get, MatchResult};
 ghost use Rattle.std.specs.Option.{option_map};
 ghost use Rattle.dictionary.specs.Entries.{has_index};
+ghost use Rattle.dictionary.specs.Places.{place_at};
 ghost use Rattle.dictionary.specs.Questions.{absence, next_above};
 ghost use Rattle.dictionary.specs.Tables.{table_entries, Stands, Absent};
 
@@ -9,12 +10,36 @@ use crate::table::Table;
 use search::{count_before, place};
 use wire::{AbortCode, Multiplexor};
 
+/// A table with no more rows than this is walked over, as that takes less time there than a search by halves. The answers are the same.
+const FEW: usize = 24;
+
 impl Table {
     /// The place of the entry at a multiplexor, or the code that says why there is none.
     pub(super) fn find(&self, multiplexor: Multiplexor) -> Result<usize, AbortCode>
         ensures { MatchResult result (λ i. Stands self.now multiplexor i) (λ c. Absent self.now multiplexor c) }
     {
-        place(&self.rows, multiplexor).ok_or_else(|| self.absence(multiplexor))
+        self.place(multiplexor)
+            .ok_or_else(|| self.absence(multiplexor))
+    }
+
+    /// The place of the entry at a multiplexor.
+    fn place(&self, multiplexor: Multiplexor) -> Option<usize>
+        ensures { result ≡ place_at multiplexor (table_entries self.now) }
+    {
+        if self.rows.len() > FEW {
+            return self.place_by_halves(multiplexor);
+        }
+        self.rows
+            .iter()
+            .position(|row| row.multiplexor == multiplexor)
+    }
+
+    /// The same by a search. It is never compiled into its caller, which so stays short enough to be compiled into those that ask it.
+    #[inline(never)]
+    fn place_by_halves(&self, multiplexor: Multiplexor) -> Option<usize>
+        ensures { result ≡ place_at multiplexor (table_entries self.now) }
+    {
+        place(&self.rows, multiplexor)
     }
 
     /// The code that says why there is no entry at a multiplexor.
@@ -30,6 +55,17 @@ impl Table {
 
     /// Whether some entry has an index.
     fn has_index(&self, index: u16) -> bool
+        ensures { result ≡ has_index index (table_entries self.now) }
+    {
+        if self.rows.len() > FEW {
+            return self.has_index_by_halves(index);
+        }
+        self.rows.iter().any(|row| row.multiplexor.index == index)
+    }
+
+    /// The same by a search, apart as `place_by_halves` is.
+    #[inline(never)]
+    fn has_index_by_halves(&self, index: u16) -> bool
         ensures { result ≡ has_index index (table_entries self.now) }
     {
         let first = count_before(&self.rows, Multiplexor { index, subindex: 0 });

@@ -1,15 +1,12 @@
 use Rattle.std.specs.Prelude.{MatchOption, MatchResult}
 use Rattle.std.specs.Result.{IsErrAnd}
 use Rattle.std.proofs.Common.{◌≡◌, ℕ, Some, None, Ok, Err, Option, Result, sym, arith, ap, ◌∙◌, rules}
-use Rattle.search.proofs.Ordering.{answers_by}
 use Rattle.wire.specs.declared.multiplexor.Multiplexor.{Multiplexor}
 use Rattle.wire.specs.declared.abort_code.AbortCode.{AbortCode}
 use Rattle.dictionary.specs.declared.table.Table.{Table}
 use Rattle.dictionary.specs.Places.{place_at}
 use Rattle.dictionary.specs.Questions.{absence}
 use Rattle.dictionary.specs.Tables.{table_entries, Stands, Absent}
-use Rattle.dictionary.proofs.Finding.{table_place}
-use Rattle.wire.proofs.Multiplexors.{by_fields}
 use Rattle.dictionary.proofs.Presence.{absent_from}
 use Rattle.dictionary.proofs.TableFacts.{stands}
 use Rattle.dictionary.proofs.table.Table.find.Goals as goal
@@ -24,5 +21,4 @@ pub returns : goal.returns
 returns c =
     let t = c.args.self.now in
     let m = c.args.multiplexor in
-    let answers = rw c.deref.ensures.0 at (answers_by by_fields c.place.ensures.answers) in
-    found t m c.place.result _ _ (table_place t m c.place.result answers) (λ x h. search rules) c.ok_or_else.ensures.cases
+    found t m c.place.result _ _ c.place.ensures (λ x h. search rules) c.ok_or_else.ensures.cases
