@@ -154,7 +154,7 @@ fn entries_are_found_one_after_the_other(rt: HostRuntime) {
     assert_eq!(rt; table.attributes(at(0x2001, 1)), Err(AbortCode::NoSubindex));
 }
 
-/// The attributes of the entry at an index in a table of so many.
+/// The attributes of an entry of `of_entries`, by its index.
 fn of_index(index: u8) -> Attributes {
     both(1, u16::from(index) + 2)
 }
